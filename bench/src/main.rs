@@ -1,0 +1,156 @@
+//! The benchmark of bench/run: our functions, called through the static library, beside Rust's.
+
+mod inputs;
+mod variants;
+
+use inputs::{COUNT, Generator};
+use std::hint::black_box;
+use std::process::ExitCode;
+use std::time::{Duration, Instant};
+use variants::Variant;
+
+const ROUNDS: usize = 31;
+/// A stretch is long against the clock's step and short against what else the machine does.
+const STRETCH: Duration = Duration::from_millis(3);
+
+/// A function over a set of inputs, by three ways.
+struct Case {
+    function: &'static str,
+    set: &'static str,
+    left: Vec<u64>,
+    right: Vec<u64>,
+    variants: [Variant; 3],
+}
+
+/// Best and median ns a call.
+struct Times {
+    best: f64,
+    median: f64,
+}
+
+fn main() -> ExitCode {
+    let least = STRETCH.as_millis();
+    println!(
+        "ns a call; {ROUNDS} interleaved rounds, each way at least {least} ms a round over {COUNT} independent inputs"
+    );
+    println!("ours: called through the static library libexports.a");
+    println!(
+        "Rust, called: through an #[inline(never)] extern \"C\" function; Rust, inlined: the plain loop"
+    );
+    println!("noise: median/best; ratios: ours/Rust, by best and by median\n");
+    println!(
+        "{:13} {:26} {:14} {:>8} {:>8} {:>7} {:>11} {:>13}",
+        "function", "inputs", "way", "best", "median", "noise", "ratio best", "ratio median"
+    );
+    for case in cases() {
+        if !ways_agree(&case) {
+            eprintln!(
+                "bench: {} over {}: the sums of the results differ, so times say nothing",
+                case.function, case.set
+            );
+            return ExitCode::from(1);
+        }
+        print_rows(&case, &measure(&case));
+    }
+    ExitCode::SUCCESS
+}
+
+fn cases() -> Vec<Case> {
+    let mut random = Generator::new();
+    let sets = [
+        ("[1e-3, 1e3]", inputs::everyday(&mut random)),
+        (
+            "positive, every exponent",
+            inputs::every_exponent(&mut random),
+        ),
+        ("subnormals", inputs::subnormals(&mut random)),
+    ];
+    let mut cases: Vec<Case> = sets
+        .into_iter()
+        .map(|(set, left)| Case {
+            function: "sqrt",
+            set,
+            left,
+            right: Vec::new(),
+            variants: variants::SQRT,
+        })
+        .collect();
+    cases.push(Case {
+        function: "wrapping_mul",
+        set: "any words",
+        left: inputs::any_words(&mut random),
+        right: inputs::any_words(&mut random),
+        variants: variants::WRAPPING_MUL,
+    });
+    cases
+}
+
+fn ways_agree(case: &Case) -> bool {
+    let sums = case.variants.map(|way| (way.pass)(&case.left, &case.right));
+    sums.iter().all(|sum| *sum == sums[0])
+}
+
+/// The time of `passes` passes. The inputs are hidden each time, so that no pass is left out.
+fn time(way: Variant, case: &Case, passes: u32) -> Duration {
+    let start = Instant::now();
+    let mut sum: u64 = 0;
+    for _ in 0..passes {
+        sum = sum.wrapping_add((way.pass)(black_box(&case.left), black_box(&case.right)));
+    }
+    black_box(sum);
+    start.elapsed()
+}
+
+/// How many passes fill a stretch.
+fn calibrate(way: Variant, case: &Case) -> u32 {
+    let mut passes = 1;
+    while time(way, case, passes) < STRETCH {
+        passes *= 2;
+    }
+    passes
+}
+
+/// Every round times each way once, one after the other, so that all meet the same machine.
+fn measure(case: &Case) -> Vec<Times> {
+    let passes = case.variants.map(|way| calibrate(way, case));
+    let mut rounds: [Vec<f64>; 3] = Default::default();
+    for _ in 0..ROUNDS {
+        for (index, way) in case.variants.into_iter().enumerate() {
+            let calls = f64::from(passes[index]) * COUNT as f64;
+            rounds[index].push(time(way, case, passes[index]).as_nanos() as f64 / calls);
+        }
+    }
+    rounds.into_iter().map(summary).collect()
+}
+
+fn summary(mut rounds: Vec<f64>) -> Times {
+    rounds.sort_by(f64::total_cmp);
+    Times {
+        best: rounds[0],
+        median: rounds[rounds.len() / 2],
+    }
+}
+
+fn print_rows(case: &Case, times: &[Times]) {
+    let ours = &times[0];
+    for (way, own) in case.variants.iter().zip(times) {
+        print!(
+            "{:13} {:26} {:14} {:8.2} {:8.2} {:7.2}",
+            case.function,
+            case.set,
+            way.name,
+            own.best,
+            own.median,
+            own.median / own.best
+        );
+        if way.name == "ours" {
+            println!();
+        } else {
+            println!(
+                " {:11.2} {:13.2}",
+                ours.best / own.best,
+                ours.median / own.median
+            );
+        }
+    }
+}

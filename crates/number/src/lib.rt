@@ -1,0 +1,5 @@
+// Numbers: a float's bits, tests of floats, products that wrap, and 64-bit numbers as bytes. Nothing here has a `requires`.
+pub mod bits;
+pub mod range;
+pub mod word;
+pub mod wrapping;

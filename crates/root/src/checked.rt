@@ -1,0 +1,80 @@
+// A quick root: a guess in floats, tested exactly in whole numbers.
+ghost use mathlib.Core.Path.{_≡_};
+ghost use Prim.Native.Nat.{ℕ, _+_, _*_, _^_, _<_};
+ghost use Rattle.root.specs.Parts.{NearestTo, RestOf};
+use crate::digits::nearest_root;
+
+// A number about two below the root of m * 2^52. Nothing is claimed of it, since it is tested.
+// Newton's steps for 1 / sqrt(f) start at a cubic that is within 0.008 of it from 1 to 4.
+pub(crate) fn guess(m: u64) -> u64
+    requires { ⌜ m < 2 ^ 54 ⌝ }
+    ensures { λ g. ⌜ g < 2 ^ 53 ⌝ }
+{
+    let f = ((m / 2) as f64) * 4.44089209850062616169452667236328125e-16;
+    let h = 0.5 * f;
+    let y0 = 1.556187102453471
+        + f * (-0.7388630493749669 + f * (0.1946857037721893 + f * -0.01905041396666591));
+    let y1 = y0 * (1.5 - h * y0 * y0);
+    let y2 = y1 * (1.5 - h * y1 * y1);
+    let s0 = f * y2;
+    let s1 = s0 + (f - s0 * s0) * (0.5 * y2);
+    (number::bits::bits_of(s1) % 0x20_0000_0000_0000 + 0x1f_ffff_ffff_fffe) % 0x20_0000_0000_0000
+}
+
+// What a square leaves of a number, or that it lies too far off.
+pub(crate) enum Rest {
+    Far,
+    Of(u64),
+}
+
+// What q * q leaves of m * 2^54. The bounds keep each product within 64 bits.
+fn rest_of(m: u64, q: u64) -> Rest
+    requires { ⌜ (m < 2 ^ 54) × (q < 2 ^ 54) ⌝ }
+    ensures { λ r. ⌜ RestOf m q r ⌝ }
+{
+    let h = q / 134217728;
+    let l = q % 134217728;
+    if m < h * h {
+        return Rest::Far;
+    }
+    if m - h * h >= 0x1000_0000 {
+        return Rest::Far;
+    }
+    let d = (m - h * h) * 67108864;
+    if d < h * l {
+        return Rest::Far;
+    }
+    if d - h * l >= 0x1_0000_0000 {
+        return Rest::Far;
+    }
+    let e = (d - h * l) * 268435456;
+    if e < l * l {
+        return Rest::Far;
+    }
+    Rest::Of(e - l * l)
+}
+
+// The number nearest to the root of n, for whichever n has 4 * n = (2 * g + 1)^2 + rest: one, two
+// or three above g.
+fn above(g: u64, rest: u64) -> u64
+    requires { ⌜ (g < 2 ^ 53) × (rest < 24 * g + 48) ⌝ }
+    ensures { λ r. ⌜ ((n : ℕ) → (2 * g + 1) * (2 * g + 1) + rest ≡ 4 * n → NearestTo n r) ⌝ }
+{
+    let second = if rest >= 8 * g + 8 { 1 } else { 0 };
+    let third = if rest >= 16 * g + 24 { 1 } else { 0 };
+    g + 1 + second + third
+}
+
+// The whole number nearest to the root of m * 2^52: near the guess g, or found plainly.
+pub(crate) fn checked(m: u64, g: u64) -> u64
+    requires { ⌜ (0 < m) × (m < 2 ^ 54) × (g < 2 ^ 53) ⌝ }
+    ensures { λ r. ⌜ NearestTo (m * 2 ^ 52) r ⌝ }
+{
+    let Rest::Of(rest) = rest_of(m, 2 * g + 1) else {
+        return nearest_root(m);
+    };
+    if rest >= 24 * g + 48 {
+        return nearest_root(m);
+    }
+    above(g, rest)
+}

@@ -1,0 +1,35 @@
+# shellcheck shell=bash disable=SC2154 # the sourcing script sets tool and root
+# Sourced by oracle/run and bench/run: the static library of our functions, and cargo without extra flags.
+
+# Ends the script with a message and status 2: nothing was compared or measured.
+fail() {
+    printf '%s: %s\n' "$tool" "$*" >&2
+    exit 2
+}
+
+# The folder of libexports.a: EXPORTS_DIR, or where `rt staticlib exports` writes it.
+archive_folder() {
+    local folder=${EXPORTS_DIR:-$root/target/staticlib}
+    [ -f "$folder/libexports.a" ] || fail "no libexports.a in $folder: run 'rt staticlib exports' in the repository, or set EXPORTS_DIR"
+    (cd "$folder" && pwd -P)
+}
+
+# Whether the archive in folder $1 holds code of this machine's processor. `rt` writes x86-64 only.
+archive_is_native() {
+    local machine
+    command -v readelf >/dev/null || fail "readelf (binutils) is needed, to tell whose code libexports.a is"
+    machine=$(LC_ALL=C readelf -h "$1/libexports.a" 2>/dev/null | sed -n 's/^ *Machine: *//p' | sort -u) || true
+    case $(uname -m):$machine in
+        x86_64:*X86-64 | aarch64:AArch64) true ;;
+        *) false ;;
+    esac
+}
+
+# cargo build of the package in folder $1 into folder $2, other words passed on, with no compiler
+# flags of the caller's: an empty CARGO_ENCODED_RUSTFLAGS outranks every other place that could set some.
+cargo_release() {
+    local package=$1 out=$2
+    shift 2
+    env -u RUSTFLAGS -u CARGO_BUILD_RUSTFLAGS -u CARGO_BUILD_TARGET -u CARGO_TARGET_DIR CARGO_ENCODED_RUSTFLAGS= \
+        cargo build --release --offline --quiet --manifest-path "$package/Cargo.toml" --target-dir "$out" "$@"
+}
