@@ -1,0 +1,37 @@
+# shellcheck shell=bash disable=SC2154 # bench/run sets work and root
+# Sourced by bench/run where the processor is not x86-64. `rt staticlib` has the kit's clang compile one
+# module of LLVM for x86-64; here the same clang compiles the very same module for the processor at hand.
+
+# A view of the kit in folder $2 whose clang also leaves the module that it is given in folder $3.
+lay_out_kit() {
+    local kit=$1 view=$2 kept=$3 machine part
+    machine=$(uname -m)
+    rm -rf "$view" "$kept"
+    mkdir -p "$view/on/$machine/toolchain/bin" "$kept"
+    for part in "$kit"/* "$kit/on/$machine"/* "$kit/on/$machine/toolchain"/* "$kit/on/$machine/toolchain/bin"/*; do
+        [ -e "$view/${part#"$kit/"}" ] || ln -s "$part" "$view/${part#"$kit/"}"
+    done
+    rm "$view/on/$machine/toolchain/bin/clang"
+    cat >"$view/on/$machine/toolchain/bin/clang" <<TEXT
+#!/bin/sh
+for word; do case \$word in *.bc) cp "\$word" "$kept/module.bc" ;; esac; done
+exec "$kit/on/$machine/toolchain/bin/clang" "\$@"
+TEXT
+    chmod +x "$view/on/$machine/toolchain/bin/clang"
+}
+
+# Proves `exports` and writes libexports.a for this processor to folder $1. Only the module's target is
+# changed. Sums and products stay apart (no contraction), as in the x86-64 code.
+native_archive() {
+    local out=$1 kit clang kept=$work/module
+    kit=$(dirname "$(dirname "$(readlink -f "$(command -v rt)")")")
+    clang=$kit/on/$(uname -m)/toolchain/bin/clang
+    lay_out_kit "$kit" "$work/kit" "$kept"
+    (cd "$root" && RATTLE_HOME=$work/kit rt staticlib exports) >"$work/staticlib.log" 2>&1 || fail "exports is not proved: see target/bench/staticlib.log"
+    "$clang" --target=x86_64-unknown-linux-gnu -S -emit-llvm -x ir "$kept/module.bc" -o "$kept/module.ll"
+    sed -i -e '/^target /d' -e 's/"target-cpu"="[^"]*"//' "$kept/module.ll"
+    mkdir -p "$out"
+    "$clang" --target="$(uname -m)-unknown-linux-gnu" -ffp-contract=off -O3 -fPIC -Wno-override-module -c -x ir "$kept/module.ll" -o "$kept/module.o"
+    rm -f "$out/libexports.a"
+    ar rcs "$out/libexports.a" "$kept/module.o"
+}
