@@ -7,22 +7,34 @@ use native.Mathlib.Omega.{arith}
 use Rattle.root.specs.Parts.{NearestTo}
 
 -- two numbers of 27 digits have a product of 54
-pub product27 : (h l : ℕ) → h < 2 ^ 27 → l < 2 ^ 27 → h * l < 2 ^ 64
+pub product27 : (h l : ℕ) → h < 2 ^ 27 → l < 2 ^ 27 → h * l ≤ 2 ^ 54
 product27 h l a b = let x : h * l ≤ 2 ^ 27 * 2 ^ 27 = mul-le-mul {n₁ = h} {m₁ = l} {n₂ = 2 ^ 27} {m₂ = 2 ^ 27} (omega arith) (omega arith) in omega arith
 
--- the square of h * 2 ^ 27 + l, taken off in three steps
-left : (m h l : ℕ) → h * h ≤ m → h * l ≤ (m - h * h) * 67108864 → l * l ≤ ((m - h * h) * 67108864 - h * l) * 268435456
-    → (h * 134217728 + l) * (h * 134217728 + l) + (((m - h * h) * 67108864 - h * l) * 268435456 - l * l) ≡ m * 2 ^ 54
-left m h l a b c = omega arith
+-- a difference that is known modulo 2 ^ 64 and is small is the exact one
+exact : (r b c : ℕ) → (r + b) % 2 ^ 64 ≡ c → r < 2 ^ 63 → b ≤ 2 ^ 54 → r + b ≡ c
+exact r b c e s t = omega arith
 
--- the same of q itself, which is h and l put together
-pub left-of : (m q : ℕ) → q / 134217728 * (q / 134217728) ≤ m → q / 134217728 * (q % 134217728) ≤ (m - q / 134217728 * (q / 134217728)) * 67108864
-    → q % 134217728 * (q % 134217728) ≤ ((m - q / 134217728 * (q / 134217728)) * 67108864 - q / 134217728 * (q % 134217728)) * 268435456
-    → q * q + (((m - q / 134217728 * (q / 134217728)) * 67108864 - q / 134217728 * (q % 134217728)) * 268435456 - q % 134217728 * (q % 134217728)) ≡ m * 2 ^ 54
-left-of m q a b c = go (q / 134217728) (q % 134217728) (omega arith) a b c
+-- the square of h * 2 ^ 27 + l, taken off in three steps
+three-steps : (m h l a d rest : ℕ) → a + h * h ≡ m → d + h * l ≡ a * 67108864 → rest + l * l ≡ d * 268435456 → (h * 134217728 + l) * (h * 134217728 + l) + rest ≡ m * 2 ^ 54
+three-steps m h l a d rest f g k = omega arith
+
+-- the same of q itself, which is h and l put together, with differences modulo 2 ^ 64
+pub left : (m q a d rest : ℕ) → q < 2 ^ 54 → (a + q / 134217728 * (q / 134217728)) % 2 ^ 64 ≡ m → a < 2 ^ 63 → (d + q / 134217728 * (q % 134217728)) % 2 ^ 64 ≡ a * 67108864 → d < 2 ^ 63
+    → (rest + q % 134217728 * (q % 134217728)) % 2 ^ 64 ≡ d * 268435456 → rest < 2 ^ 63 → q * q + rest ≡ m * 2 ^ 54
+left m q a d rest small e₁ s₁ e₂ s₂ e₃ s₃ =
+    let h = q / 134217728 in
+    let l = q % 134217728 in
+    subst (λ (w : ℕ). w * w + rest ≡ m * 2 ^ 54) (join q)
+    (three-steps m h l a d rest (exact a (h * h) m e₁ s₁ (product27 h h (high q small) (high q small))) (exact d (h * l) (a * 67108864) e₂ s₂ (product27 h l (high q small) (low q))) (exact rest (l * l) (d * 268435456) e₃ s₃ (product27 l l (low q) (low q))))
   where
-    go : (h l : ℕ) → h * 134217728 + l ≡ q → h * h ≤ m → h * l ≤ (m - h * h) * 67108864 → l * l ≤ ((m - h * h) * 67108864 - h * l) * 268435456 → q * q + (((m - h * h) * 67108864 - h * l) * 268435456 - l * l) ≡ m * 2 ^ 54
-    go h l e a b c = subst (λ (z : ℕ). z * z + (((m - h * h) * 67108864 - h * l) * 268435456 - l * l) ≡ m * 2 ^ 54) e (left m h l a b c)
+    join : (q : ℕ) → q / 134217728 * 134217728 + q % 134217728 ≡ q
+    join q = omega arith
+
+    high : (q : ℕ) → q < 2 ^ 54 → q / 134217728 < 2 ^ 27
+    high q h = omega arith
+
+    low : (q : ℕ) → q % 134217728 < 2 ^ 27
+    low q = omega arith
 
 -- the root is nearest to g + 1, g + 2 or g + 3
 pub above-is : (n g rest a b : ℕ) → (2 * g + 1) * (2 * g + 1) + rest ≡ 4 * n → rest < 24 * g + 48

@@ -22,7 +22,7 @@ pub record NearestTo (n r : ℕ) : Type 0 where
   pub low : r * r < n + r
   pub high : n ≤ r * r + r
 
--- what q * q leaves of m * 2 ^ 54, where it is told
+-- what q * q leaves of m * 2 ^ 54, where it is told and is below 2 ^ 63
 abbrev pub RestOf : ℕ → ℕ → Rest → Type 0
 RestOf m q Far = m ≡ m
-RestOf m q (Of rest) = q * q + rest ≡ m * 2 ^ 54
+RestOf m q (Of rest) = rest < 2 ^ 63 → q * q + rest ≡ m * 2 ^ 54

@@ -34,31 +34,23 @@ pub(crate) enum Rest {
     Of(u64),
 }
 
-// What q * q leaves of m * 2^54. The bounds keep each product within 64 bits.
+// What q * q leaves of m * 2^54, in three steps, each modulo 2^64 and of few bits where q is near. A
+// rest from 2^63 on says nothing.
 fn rest_of(m: u64, q: u64) -> Rest
     requires { ⌜ (m < 2 ^ 54) × (q < 2 ^ 54) ⌝ }
     ensures { λ r. ⌜ RestOf m q r ⌝ }
 {
     let h = q / 134217728;
     let l = q % 134217728;
-    if m < h * h {
+    let first = std::num::wrapping_sub_u64(m, h * h);
+    if first >= 0x1000_0000 {
         return Rest::Far;
     }
-    if m - h * h >= 0x1000_0000 {
+    let second = std::num::wrapping_sub_u64(first * 67108864, h * l);
+    if second >= 0x1_0000_0000 {
         return Rest::Far;
     }
-    let d = (m - h * h) * 67108864;
-    if d < h * l {
-        return Rest::Far;
-    }
-    if d - h * l >= 0x1_0000_0000 {
-        return Rest::Far;
-    }
-    let e = (d - h * l) * 268435456;
-    if e < l * l {
-        return Rest::Far;
-    }
-    Rest::Of(e - l * l)
+    Rest::Of(std::num::wrapping_sub_u64(second * 268435456, l * l))
 }
 
 // The number nearest to the root of n, for whichever n has 4 * n = (2 * g + 1)^2 + rest: one, two

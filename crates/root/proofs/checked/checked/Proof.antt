@@ -1,6 +1,6 @@
 -- `checked` meets its contract, by the exact test or by the plain method. Assumes nothing.
 use borrow.Author.Needs.{needs}
-use mathlib.Core.Path.{subst}
+use mathlib.Core.Path.{_≡_, subst}
 use Prim.Native.Nat.{_+_, _*_, _^_}
 use native.Mathlib.Omega.{arith}
 use Rattle.root.specs.declared.checked.Rest.{Rest}
@@ -52,9 +52,12 @@ above-requires c κs = search needs
 
 returns-3 : tie.Need-returns-3
 returns-3 c =
-    let k = c .before .before .before in
+    let e = c .before in
+    let k = e .before .before in
     let a = k .before .before .before .args in
-    let w : RestOf (a .m) (2 * a .g + 1) (Of (k .rest .given .0 .0)) = subst (λ (r : Rest). RestOf (a .m) (2 * a .g + 1) r) (k .rest .given .1) (k .before .before .rest-of .ensures) in
+    let rest = k .rest .given .0 .0 in
+    let w : RestOf (a .m) (2 * a .g + 1) (Of rest) = subst (λ (r : Rest). RestOf (a .m) (2 * a .g + 1) r) (k .rest .given .1) (k .before .before .rest-of .ensures) in
+    let x : (2 * a .g + 1) * (2 * a .g + 1) + rest ≡ a .m * 2 ^ 54 = w (omega arith) in
     c .above .ensures (a .m * 2 ^ 52) (omega arith)
 
 pub checked-spec : {M : Type 1} → statement M
