@@ -35,7 +35,7 @@ rootOf (fin s zero e) = fin s zero e
 rootOf (fin true (suc m) e) = nan
 rootOf (fin false (suc m) e) = rootOfUnits (unitsOf (fin false (suc m) e))
 
--- a number that is not below zero, and -0 aside
+-- a number from +0 up
 abbrev pub fromZero : Float → Bool
 fromZero nan = false
 fromZero (inf s) = false
@@ -43,7 +43,7 @@ fromZero (fin false m e) = true
 fromZero (fin true m e) = false
 
 -- No float is as near to the exact root of x as y is: for every other float z from zero up, the root lies on y's side of the point half way between y and z.
--- Both are squared: 4 * x is compared with (y + z) ^ 2, in units of 2 ^ -2148.
+-- Both are squared: 4 * x is compared with (y + z) ^ 2, in units of 2 ^ -2148. (A float below zero is further from the root than zero is.)
 pub record Nearest (x y : Float) : Type 0 where
   pub above : (z : Float) → T (fits binary64 z) → T (fromZero z) → unitsOf z < unitsOf y → (unitsOf y + unitsOf z) * (unitsOf y + unitsOf z) < 4 * unitsOf x * 2 ^ 1074
   pub below : (z : Float) → T (fits binary64 z) → T (fromZero z) → unitsOf y < unitsOf z → 4 * unitsOf x * 2 ^ 1074 < (unitsOf y + unitsOf z) * (unitsOf y + unitsOf z)
