@@ -27,12 +27,7 @@ pub fn run(ours: &mut Ours, seed: u64) -> bool {
 
 fn over_patterns(mut comparison: Comparison, seed: u64) -> bool {
     let mut random = Generator::new(seed);
-    for field in 0..2048 {
-        for fraction in EDGE_FRACTIONS {
-            comparison.pattern(positive(field, fraction));
-            comparison.pattern(positive(field, fraction) | SIGN);
-        }
-    }
+    comparison.every_exponent();
     every_kind_of_nan(&mut comparison, &mut random);
     for _ in 0..9_000_000 {
         comparison.pattern(random.word());

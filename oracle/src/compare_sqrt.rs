@@ -15,23 +15,13 @@ pub fn run(ours: &mut Ours, seed: u64) -> bool {
     };
     let mut comparison = Comparison::new(subject, ours);
     let mut random = Generator::new(seed);
-    every_exponent(&mut comparison);
+    comparison.every_exponent();
     specials(&mut comparison, &mut random);
     random_patterns(&mut comparison, &mut random);
     around_squares(&mut comparison, &mut random);
     around_half_ways(&mut comparison, &mut random);
     around_hardest(&mut comparison, &mut random);
     comparison.finish()
-}
-
-/// Every exponent field (0 has zeros and subnormals, 2047 infinities and NaNs) with edge fractions.
-fn every_exponent(comparison: &mut Comparison) {
-    for field in 0..2048 {
-        for fraction in EDGE_FRACTIONS {
-            comparison.pattern(positive(field, fraction));
-            comparison.pattern(positive(field, fraction) | SIGN);
-        }
-    }
 }
 
 /// Zeros, infinities, and NaNs of both kinds and signs with payloads.

@@ -1,6 +1,6 @@
 //! One comparison: collects inputs into blocks, asks both sides, counts and shows differences.
 
-use crate::float_patterns::{INFINITY, SIGN};
+use crate::float_patterns::{EDGE_FRACTIONS, INFINITY, SIGN, positive};
 use crate::ours::{BLOCK, Operation, Ours};
 use std::hint::black_box;
 use std::time::Instant;
@@ -51,6 +51,16 @@ impl<'a> Comparison<'a> {
 
     pub fn pattern(&mut self, bits: u64) {
         self.input(&[bits]);
+    }
+
+    /// Every exponent field (0 has zeros and subnormals, 2047 infinities and NaNs) with edge fractions.
+    pub fn every_exponent(&mut self) {
+        for field in 0..2048 {
+            for fraction in EDGE_FRACTIONS {
+                self.pattern(positive(field, fraction));
+                self.pattern(positive(field, fraction) | SIGN);
+            }
+        }
     }
 
     pub fn pair(&mut self, a: u64, b: u64) {

@@ -1,12 +1,12 @@
 -- The root of a pattern's number: what the definition makes of its parts, and the pattern that is the answer. Assumes nothing.
-use mathlib.Core.Path.{_≡_, refl, sym, ap, _∙_, subst}
+use mathlib.Core.Path.{_≡_, sym, ap, _∙_, subst}
 use mathlib.Core.Bool.{false}
 use mathlib.Core.Logic.{_⊎_, inl, inr}
 use Prim.Native.Nat.{ℕ, zero, suc, _+_, _-_, _*_, _/_, _%_, _^_, _≤_, _<_}
-use native.Mathlib.Nat.{le-trans, le-of-eq, lt-of-lt-of-le, lt-of-le-of-lt, lt-of-not-le, mul-assoc, mul-one, mul-pos, mul-le-mul, mul-le-mul-left, mul-le-mul-right, mul-lt-mul-of-pos-right, lt-of-mul-lt-mul-right, lt-suc-self, div-eq-of-eq-mul-left, eq-or-lt-of-le}
+use native.Mathlib.Nat.{le-of-eq, lt-of-lt-of-le, lt-of-le-of-lt, lt-of-not-le, mul-assoc, mul-one, mul-pos, mul-le-mul, mul-le-mul-right, mul-lt-mul-of-pos-right, lt-of-mul-lt-mul-right, lt-suc-self, div-eq-of-eq-mul-left, eq-or-lt-of-le}
 use native.Mathlib.Decide.{decLe}
 use native.Mathlib.Omega.{arith}
-use lib.Dec.{T, lit<, lit≤}
+use lib.Dec.{T, lit<}
 use lib.Pow.{pow-add, pow-pos, pow-mono, pow-lt}
 use lib.Count.{leadingZeros}
 use lib.Ieee.{Float, binary64, fits, size, round, ofBits}
@@ -17,7 +17,7 @@ use lib.Ieee.Fits.{round-fits}
 use Rattle.root.specs.Root.{nearestRoot, unitsOf, rootOfUnits, fromZero}
 use Rattle.root.specs.Parts.{patternUnits, Split, NearestTo}
 use Rattle.root.proofs.Whole.{nearest-is, one-nearest}
-use Rattle.root.proofs.Parts.{H, four-pow, pow-lt-cancel, even-is, subnormal, normal, normal-split, Shift, shift, subnormal-split}
+use Rattle.root.proofs.Parts.{H, four-pow, pow-lt-cancel, even-is, normal, normal-split, Shift, shift, subnormal-split}
 use Rattle.root.proofs.Floats.{INF, units-are, pattern-units, same-float}
 
 -- ---- every pattern above zero has its parts

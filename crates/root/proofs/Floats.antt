@@ -1,13 +1,13 @@
 -- Floats from zero up and their bit patterns: one pattern a float, in the order of their numbers. Assumes nothing.
 use mathlib.Core.Path.{_≡_, refl, sym, ap, _∙_, subst}
-use mathlib.Core.Bool.{Bool, true, false, not, _&&_}
+use mathlib.Core.Bool.{true, false, not, _&&_}
 use mathlib.Core.Logic.{_⊎_, inl, inr}
 use Prim.Native.Nat.{ℕ, zero, suc, _+_, _-_, _*_, _/_, _%_, _^_, _≤_, _<_}
-use native.Mathlib.Nat.{le-trans, le-of-eq, le-of-lt, lt-of-lt-of-le, lt-of-le-of-lt, lt-irrefl, lt-of-not-le, le-of-suc-le-suc, le-antisymm, le-mul-of-pos-right, lt-of-mul-lt-mul-left, zero-mul, pow-succ', mul-assoc, mul-one, mul-right-comm, mul-le-mul-left, mul-le-mul-right, mul-lt-mul-of-pos-right, mul-pos, mod-eq-of-lt, mul-div-cancel, div-lt-iff-lt-mul, eq-of-mul-eq-mul-right, eq-or-lt-of-le, sub-add-cancel}
+use native.Mathlib.Nat.{le-trans, le-of-eq, lt-of-lt-of-le, lt-of-le-of-lt, lt-irrefl, lt-of-not-le, le-of-suc-le-suc, le-antisymm, le-mul-of-pos-right, lt-of-mul-lt-mul-left, zero-mul, pow-succ', mul-assoc, mul-one, mul-right-comm, mul-le-mul-left, mul-le-mul-right, mul-lt-mul-of-pos-right, mul-pos, mod-eq-of-lt, mul-div-cancel, div-lt-iff-lt-mul, eq-of-mul-eq-mul-right, eq-or-lt-of-le, sub-add-cancel}
 use native.Mathlib.Decide.{decLe}
 use native.Mathlib.Omega.{arith}
-use lib.IntN.{ℤ, pos}
-use lib.Dec.{T, leb, ltb, eqb, ltb→lt, lit<, lit≤}
+use lib.IntN.{ℤ}
+use lib.Dec.{T, leb, ltb, eqb, ltb→lt}
 use lib.Pow.{pow-add, pow-pos, pow-mono}
 use lib.Ieee.{Float, nan, inf, fin, binary64, fits, up, down, size, odd, ofFields, ofBits, toBits, nanBits}
 use lib.Ieee.Bits.{ofBits-toBits}

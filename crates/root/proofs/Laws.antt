@@ -2,8 +2,8 @@
 use mathlib.Core.Path.{_≡_, refl, sym, ap, _∙_, subst}
 use mathlib.Core.Bool.{true, false}
 use mathlib.Core.Logic.{_⊎_, inl, inr}
-use Prim.Native.Nat.{ℕ, zero, suc, _+_, _-_, _*_, _/_, _%_, _^_, _≤_, _<_}
-use native.Mathlib.Nat.{le-trans, le-of-eq, le-of-lt, lt-trans, lt-irrefl, lt-of-lt-of-le, lt-of-le-of-lt, lt-of-not-le, le-antisymm, le-of-suc-le-suc, mul-assoc, mul-le-mul, mul-le-mul-left, mul-le-mul-right, mul-lt-mul-of-pos-right, lt-of-mul-lt-mul-right, mul-pos, mul-mul-mul-comm, add-mul, eq-or-lt-of-le}
+use Prim.Native.Nat.{ℕ, zero, suc, _+_, _-_, _*_, _/_, _^_, _≤_, _<_}
+use native.Mathlib.Nat.{le-trans, le-of-eq, le-of-lt, lt-trans, lt-irrefl, lt-of-lt-of-le, lt-of-le-of-lt, lt-of-not-le, le-antisymm, le-of-suc-le-suc, mul-le-mul, mul-le-mul-left, mul-le-mul-right, mul-lt-mul-of-pos-right, lt-of-mul-lt-mul-right, mul-pos, mul-mul-mul-comm, add-mul, eq-or-lt-of-le}
 use native.Mathlib.Decide.{decLe}
 use native.Mathlib.Omega.{arith}
 use lib.IntN.{ℤ}
@@ -15,7 +15,7 @@ use Rattle.root.specs.Root.{nearestRoot, unitsOf, rootOfUnits, rootOf, f
 use Rattle.root.specs.Parts.{patternUnits, Split, NearestTo}
 use Rattle.root.proofs.Whole.{nearest-is}
 use Rattle.root.proofs.Parts.{H, four-pow}
-use Rattle.root.proofs.Floats.{bits-units, bits-below, same-float, on-grid}
+use Rattle.root.proofs.Floats.{bits-units, same-float, on-grid}
 use Rattle.root.proofs.Answers.{parts-of, least, root-units}
 use Rattle.root.proofs.Cases.{Above, bits-least, bits-most, root-above}
 

@@ -1,10 +1,9 @@
 -- The parts of a bit pattern: what its digits and its field stand for, and the power of two made even. Assumes nothing.
 use mathlib.Core.Path.{_≡_, refl, sym, ap, _∙_, subst}
-use mathlib.Core.Bool.{cond}
 use Prim.Native.Nat.{ℕ, zero, suc, _+_, _-_, _*_, _/_, _%_, _^_, _≤_, _<_}
 use native.Mathlib.Nat.{le-trans, le-of-eq, lt-of-lt-of-le, lt-of-le-of-lt, lt-of-not-le, not-le-of-lt, mul-assoc, mul-one, add-comm, mul-le-mul-left, mul-le-mul-right, mul-lt-mul-of-pos-right, mod-eq-of-lt, pow-succ'}
 use native.Mathlib.Omega.{arith}
-use lib.Dec.{ltb, lit≤}
+use lib.Dec.{lit≤}
 use lib.Pow.{pow-add, pow-pos, pow-mono}
 use lib.Count.{leadingZeros, leading-top}
 use borrow.Author.Tests.{lt-ltb, le-ltb}

@@ -1,5 +1,5 @@
 -- The root digit by digit: what holds after i turns, and that a turn keeps it. Assumes nothing.
-use mathlib.Core.Path.{_≡_, refl, sym, ap, _∙_, subst}
+use mathlib.Core.Path.{_≡_, sym, ap, _∙_, subst}
 use Prim.Native.Nat.{ℕ, _+_, _-_, _*_, _/_, _%_, _^_, _≤_, _<_}
 use native.Mathlib.Nat.{lt-of-lt-of-le, pow-succ', le-of-suc-le-suc, mul-assoc, le-antisymm}
 use native.Mathlib.Numerals.{add-one}

@@ -1,6 +1,6 @@
 -- The definitions of the square root at single points, computed. The numbers are bit patterns of IEEE 754.
 use mathlib.Core.Path.{_≡_, refl}
-use Prim.Native.Nat.{ℕ, _+_, _*_, _^_}
+use Prim.Native.Nat.{ℕ, _*_, _^_}
 use lib.Ieee.{Float, nan, binary64, ofBits}
 use Rattle.root.specs.Root.{floorRoot, nearestRoot, unitsOf, rootOfUnits, rootOf}
 

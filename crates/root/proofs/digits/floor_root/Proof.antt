@@ -1,7 +1,7 @@
 -- `floor_root` meets its contract: each turn keeps `Turned`, whichever way its test goes. Assumes nothing.
 use borrow.Author.Needs.{needs}
 use mathlib.Core.Logic.{⊎-elim}
-use mathlib.Core.Path.{_≡_, sym, subst₂}
+use mathlib.Core.Path.{sym, subst₂}
 use Prim.Native.Nat.{ℕ, _+_, _-_, _*_, _%_, _^_, _<_}
 use native.Mathlib.Omega.{arith}
 use Rattle.root.proofs.Turns.{Turned, first, room, one-digit, zero-digit, last}
