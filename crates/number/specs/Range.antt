@@ -56,3 +56,8 @@ clamp-above = refl
 pub clamp-nan : clampOf nan 0f 1f ≡ nan
 unfolding ofBits lt
 clamp-nan = refl
+
+-- with its bounds exchanged, where the Rust panics
+pub clamp-exchanged : clampOf 0f 1f (− 1f) ≡ 1f
+unfolding ofBits neg lt
+clamp-exchanged = refl

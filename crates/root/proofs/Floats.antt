@@ -3,7 +3,7 @@ use mathlib.Core.Path.{_≡_, refl, sym, ap, _∙_, subst}
 use mathlib.Core.Bool.{true, false, not, _&&_}
 use mathlib.Core.Logic.{_⊎_, inl, inr}
 use Prim.Native.Nat.{ℕ, zero, suc, _+_, _-_, _*_, _/_, _%_, _^_, _≤_, _<_}
-use native.Mathlib.Nat.{le-trans, le-of-eq, lt-of-lt-of-le, lt-of-le-of-lt, lt-irrefl, lt-of-not-le, le-of-suc-le-suc, le-antisymm, le-mul-of-pos-right, lt-of-mul-lt-mul-left, zero-mul, pow-succ', mul-assoc, mul-one, mul-right-comm, mul-le-mul-left, mul-le-mul-right, mul-lt-mul-of-pos-right, mul-pos, mod-eq-of-lt, mul-div-cancel, div-lt-iff-lt-mul, eq-of-mul-eq-mul-right, eq-or-lt-of-le, sub-add-cancel}
+use native.Mathlib.Nat.{le-trans, le-of-eq, lt-of-lt-of-le, lt-of-le-of-lt, lt-irrefl, lt-of-not-le, le-of-suc-le-suc, le-mul-of-pos-right, lt-of-mul-lt-mul-left, zero-mul, pow-succ', mul-assoc, mul-one, mul-right-comm, mul-le-mul-left, mul-le-mul-right, mul-lt-mul-of-pos-right, mul-pos, mod-eq-of-lt, mul-div-cancel, div-lt-iff-lt-mul, eq-of-mul-eq-mul-right, eq-or-lt-of-le, sub-add-cancel}
 use native.Mathlib.Decide.{decLe}
 use native.Mathlib.Omega.{arith}
 use lib.IntN.{ℤ}
@@ -18,6 +18,7 @@ use borrow.Author.Tests.{lt-leb, ne-eqb}
 use Rattle.number.proofs.BitLaws.{below-no-nan}
 use Rattle.root.specs.Root.{unitsOf, fromZero}
 use Rattle.root.specs.Parts.{patternUnits}
+use Rattle.root.proofs.Whole.{neither-less}
 use Rattle.root.proofs.Parts.{H, subnormal, normal, pow-lt-cancel}
 
 -- the infinity's pattern: those below it are the numbers from zero up
@@ -135,7 +136,7 @@ same-float x y fx zx fy zy e =
     not-less b c e h = lt-irrefl (patternUnits c) (subst (λ (z : ℕ). z < patternUnits c) e (pattern-order b c h))
 
     one : (b c : ℕ) → patternUnits b ≡ patternUnits c → b ≡ c
-    one b c e = le-antisymm (le-of-suc-le-suc (lt-of-not-le (not-less c b (sym e)))) (le-of-suc-le-suc (lt-of-not-le (not-less b c e)))
+    one b c e = neither-less (not-less b c e) (not-less c b (sym e))
 
 -- ---- from 2 ^ 52 steps of 2 ^ i up, a float is a whole number of them
 pub on-grid : (c i : ℕ) → H * 2 ^ i ≤ patternUnits c → (g : ℕ) × (patternUnits c ≡ g * 2 ^ i)

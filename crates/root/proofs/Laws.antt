@@ -3,7 +3,7 @@ use mathlib.Core.Path.{_≡_, refl, sym, ap, _∙_, subst}
 use mathlib.Core.Bool.{true, false}
 use mathlib.Core.Logic.{_⊎_, inl, inr}
 use Prim.Native.Nat.{ℕ, zero, suc, _+_, _-_, _*_, _/_, _^_, _≤_, _<_}
-use native.Mathlib.Nat.{le-trans, le-of-eq, le-of-lt, lt-trans, lt-irrefl, lt-of-lt-of-le, lt-of-le-of-lt, lt-of-not-le, le-antisymm, le-of-suc-le-suc, mul-le-mul, mul-le-mul-left, mul-le-mul-right, mul-lt-mul-of-pos-right, lt-of-mul-lt-mul-right, mul-pos, mul-mul-mul-comm, add-mul, eq-or-lt-of-le}
+use native.Mathlib.Nat.{le-trans, le-of-eq, le-of-lt, lt-trans, lt-irrefl, lt-of-lt-of-le, lt-of-le-of-lt, lt-of-not-le, mul-le-mul, mul-le-mul-left, mul-le-mul-right, mul-lt-mul-of-pos-right, lt-of-mul-lt-mul-right, mul-pos, mul-mul-mul-comm, add-mul, eq-or-lt-of-le}
 use native.Mathlib.Decide.{decLe}
 use native.Mathlib.Omega.{arith}
 use lib.IntN.{ℤ}
@@ -13,7 +13,7 @@ use lib.Ieee.{Float, nan, inf, fin, binary64, fits, size, toBits}
 use lib.Ieee.Fits.{nan-fits, inf-fits, round-fits}
 use Rattle.root.specs.Root.{nearestRoot, unitsOf, rootOfUnits, rootOf, fromZero, Nearest}
 use Rattle.root.specs.Parts.{patternUnits, Split, NearestTo}
-use Rattle.root.proofs.Whole.{nearest-is}
+use Rattle.root.proofs.Whole.{nearest-is, neither-less}
 use Rattle.root.proofs.Parts.{H, four-pow}
 use Rattle.root.proofs.Floats.{bits-units, same-float, on-grid}
 use Rattle.root.proofs.Answers.{parts-of, least, root-units}
@@ -125,11 +125,8 @@ root-nearest m e f =
 
 -- Two floats cannot both be nearest.
 pub one-nearest-float : (x y z : Float) → T (fits binary64 y) → T (fromZero y) → T (fits binary64 z) → T (fromZero z) → Nearest x y → Nearest x z → y ≡ z
-one-nearest-float x y z fy cy fz cz a b = same-float y z fy cy fz cz (le-antisymm (not-lt (not-less z y fz cz fy cy b a)) (not-lt (not-less y z fy cy fz cz a b)))
+one-nearest-float x y z fy cy fz cz a b = same-float y z fy cy fz cz (neither-less (not-less y z fy cy fz cz a b) (not-less z y fz cz fy cy b a))
   where
-    not-lt : {i k : ℕ} → (k < i → ⊥) → i ≤ k
-    not-lt h = le-of-suc-le-suc (lt-of-not-le h)
-
     not-less : (y z : Float) → T (fits binary64 y) → T (fromZero y) → T (fits binary64 z) → T (fromZero z) → Nearest x y → Nearest x z → unitsOf y < unitsOf z → ⊥
     not-less y z fy cy fz cz a b l = lt-irrefl (4 * unitsOf x * 2 ^ 1074) (lt-trans (a .below z fz cz l) (subst (λ (w : ℕ). w * w < 4 * unitsOf x * 2 ^ 1074) (swap (unitsOf z) (unitsOf y)) (b .above y fy cy l)))
       where

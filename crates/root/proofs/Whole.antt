@@ -54,8 +54,9 @@ nearest-is n p h = pick-nearest n (floorRoot 53 n) (ltb (floorRoot 53 n) (n - fl
 not-above : (n r s : ℕ) → NearestTo n r → NearestTo n s → r < s → ⊥
 not-above n r (suc t) a b h = let x : r * r ≤ t * t = mul-le-mul (le-of-suc-le-suc h) (le-of-suc-le-suc h) in omega (arith, a .high, b .low)
 
+-- where neither is less they are one
+pub neither-less : {i j : ℕ} → (i < j → ⊥) → (j < i → ⊥) → i ≡ j
+neither-less {i} {j} a b = le-antisymm (le-of-suc-le-suc (lt-of-not-le b)) (le-of-suc-le-suc (lt-of-not-le a))
+
 pub one-nearest : (n r s : ℕ) → NearestTo n r → NearestTo n s → r ≡ s
-one-nearest n r s a b = le-antisymm (not-lt (not-above n s r b a)) (not-lt (not-above n r s a b))
-  where
-    not-lt : {i j : ℕ} → (j < i → ⊥) → i ≤ j
-    not-lt {i} {j} h = le-of-suc-le-suc (lt-of-not-le h)
+one-nearest n r s a b = neither-less (not-above n r s a b) (not-above n s r b a)
