@@ -1,8 +1,8 @@
 mod Whole
 mod Turns
 mod Guess
-mod Parts
-mod Floats
+pub mod Parts
+pub mod Floats
 mod Answers
 mod Cases
 pub mod Laws

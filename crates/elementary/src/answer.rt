@@ -1,0 +1,5 @@
+// The answer of ln, cos and the powers.
+pub enum Answer {
+    Outside,
+    Inside(f64),
+}
