@@ -1,0 +1,3 @@
+-- The definitions that the contracts of the powers cite.
+pub mod Power
+pub mod Points

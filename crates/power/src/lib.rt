@@ -1,0 +1,91 @@
+// Powers of a float with the exponents -s and -1 / s, for a base from 2^-120 to 2^120 and an s from 1 to 8.
+ghost use mathlib.Core.Path.{_≡_};
+ghost use Prim.Native.Nat.{_/_, _<_, _≤_};
+ghost use Rattle.elementary.specs.Exact.{powerInside, InversePower, InverseRoot};
+ghost use Rattle.power.specs.Power.{products, digits, rootOfPattern, inversePowerOf, inverseRootOf};
+use elementary::answer::Answer;
+
+// 2^120, the largest base.
+const MOST: f64 = 1.329227995784916e36;
+
+// 2^-120, the smallest.
+const LEAST: f64 = 7.52316384526264e-37;
+
+fn inside(a: f64, s: u64) -> bool
+    ensures { λ r. ⌜ r ≡ powerInside a s ⌝ }
+{
+    number::range::within(a, LEAST, MOST) && 1 <= s && s <= 8
+}
+
+// x * c^n by n products: n factors of 1 + 2^-53.
+fn times(x: f64, c: f64, n: u64) -> f64
+    ensures { λ r. ⌜ r ≡ products x c n ⌝ }
+{
+    let mut p = x;
+    let mut i: u64 = 0;
+    while i < n {
+        p = p * c;
+        i += 1;
+    }
+    p
+}
+
+// The 52 digits after the first one of a c from 1/2 to 1 whose v * c^s is about 1, one a turn: a digit
+// is 1 where v * c^s is then below 1. So c is at most the root and the next number at least, up to the s
+// factors of a test.
+fn root_digits(v: f64, s: u64) -> u64
+    ensures { λ r. ⌜ r ≡ digits v s 52 0 ⌝ }
+    ensures { λ r. ⌜ r < 0x10_0000_0000_0000 ⌝ }
+{
+    let mut m: u64 = 0;
+    let mut n: u64 = 52;
+    while n > 0 {
+        n -= 1;
+        let next = m + (1 << n);
+        if times(v, f64::from_bits(0x3fe0_0000_0000_0000 + next), s) < 1.0 {
+            m = next;
+        }
+    }
+    m
+}
+
+// The inverse root of the number of the pattern b, which is v * 2^(t - t % s - 840) with v from 1 to 2^s.
+// The first c above the digits times a power of two: the scaling is exact.
+fn root_of(b: u64, s: u64) -> f64
+    requires { ⌜ (903 ≤ b / 0x10_0000_0000_0000) × (b / 0x10_0000_0000_0000 ≤ 1143) ⌝ ∗ ⌜ (1 ≤ s) × (s ≤ 8) ⌝ }
+    ensures { λ r. ⌜ r ≡ rootOfPattern b s ⌝ }
+{
+    let t = b / 0x10_0000_0000_0000 - 183;
+    let v = f64::from_bits(b % 0x10_0000_0000_0000 + (t % s + 1023) * 0x10_0000_0000_0000);
+    let m = root_digits(v, s);
+    f64::from_bits(m + 1 + (1022 + 840 / s - t / s) * 0x10_0000_0000_0000)
+}
+
+// a^-s. s - 1 products and a quotient: r * a^s is within 8 factors of 1 + 2^-53 of 1, and the band is 2^-44.
+pub fn inverse_power(a: f64, s: u64) -> Answer
+    ensures { λ r. ⌜ r ≡ inversePowerOf a s ⌝ }
+    ensures { λ r. ⌜ InversePower a s r ⌝ }
+{
+    if !inside(a, s) {
+        return Answer::Outside;
+    }
+    if a == 1.0 {
+        return Answer::Inside(1.0);
+    }
+    Answer::Inside(1.0 / times(a, a, s - 1))
+}
+
+// a^(-1 / s). s factors of the tests and 2 * s of the step from one c to the next (a part in 2^52): r^s * a
+// is within 24 factors of 1 + 2^-53 of 1, and the band is 2^-40.
+pub fn inverse_root(a: f64, s: u64) -> Answer
+    ensures { λ r. ⌜ r ≡ inverseRootOf a s ⌝ }
+    ensures { λ r. ⌜ InverseRoot a s r ⌝ }
+{
+    if !inside(a, s) {
+        return Answer::Outside;
+    }
+    if a == 1.0 {
+        return Answer::Inside(1.0);
+    }
+    Answer::Inside(root_of(f64::to_bits(a), s))
+}
