@@ -1,6 +1,6 @@
 // Reaches libexports.a on a machine whose processor cannot run it: an x86-64 program without a C
 // library, run under an emulator. It reads requests on standard input and answers each on standard
-// output: operation, count, then count inputs (pairs for multiply and add); count answers.
+// output: operation, count, then count inputs (pairs for multiply, add and the powers); count answers.
 // Every word is 8 bytes, little-endian. The driver's side is src/ours.rs.
 #include <stddef.h>
 #include <stdint.h>
@@ -10,8 +10,13 @@ uint64_t kipawnore_wrapping_mul(uint64_t a, uint64_t b);
 uint64_t kipawnore_wrapping_add(uint64_t a, uint64_t b);
 uint64_t kipawnore_bits_of(double x);
 double kipawnore_float_of(uint64_t b);
+double kipawnore_exp(double x);
+double kipawnore_ln(double x);
+double kipawnore_cos(double x);
+double kipawnore_inverse_power(double a, uint64_t s);
+double kipawnore_inverse_root(double a, uint64_t s);
 
-enum { SQRT, MULTIPLY, ADD, FLOAT_OF, BITS_OF, ROUND_TRIP, OPERATIONS };
+enum { SQRT, MULTIPLY, ADD, FLOAT_OF, BITS_OF, ROUND_TRIP, EXP, LN, COS, INVERSE_POWER, INVERSE_ROOT, OPERATIONS };
 enum { READ = 0, WRITE = 1, EXIT = 60, MOST = 1 << 16 };
 
 static uint64_t inputs[2 * MOST];
@@ -50,15 +55,27 @@ static uint64_t as_bits(double value) {
     return u.bits;
 }
 
-static void answer(uint64_t operation, size_t count) {
-    const uint64_t *in = inputs;
-    for (size_t i = 0; i < count; i++) switch (operation) {
-        case SQRT: answers[i] = as_bits(kipawnore_sqrt(as_double(in[i]))); break;
-        case MULTIPLY: answers[i] = kipawnore_wrapping_mul(in[2 * i], in[2 * i + 1]); break;
-        case ADD: answers[i] = kipawnore_wrapping_add(in[2 * i], in[2 * i + 1]); break;
-        case FLOAT_OF: answers[i] = as_bits(kipawnore_float_of(in[i])); break;
-        case BITS_OF: answers[i] = kipawnore_bits_of(as_double(in[i])); break;
-        case ROUND_TRIP: answers[i] = kipawnore_bits_of(kipawnore_float_of(in[i])); break;
+static size_t arity(uint64_t operation) {
+    switch (operation) {
+        case MULTIPLY: case ADD: case INVERSE_POWER: case INVERSE_ROOT: return 2;
+        default: return 1;
+    }
+}
+
+static uint64_t answer(uint64_t operation, const uint64_t *input) {
+    double x = as_double(input[0]);
+    switch (operation) {
+        case SQRT: return as_bits(kipawnore_sqrt(x));
+        case MULTIPLY: return kipawnore_wrapping_mul(input[0], input[1]);
+        case ADD: return kipawnore_wrapping_add(input[0], input[1]);
+        case FLOAT_OF: return as_bits(kipawnore_float_of(input[0]));
+        case BITS_OF: return kipawnore_bits_of(x);
+        case EXP: return as_bits(kipawnore_exp(x));
+        case LN: return as_bits(kipawnore_ln(x));
+        case COS: return as_bits(kipawnore_cos(x));
+        case INVERSE_POWER: return as_bits(kipawnore_inverse_power(x, input[1]));
+        case INVERSE_ROOT: return as_bits(kipawnore_inverse_root(x, input[1]));
+        default: return kipawnore_bits_of(kipawnore_float_of(input[0])); // ROUND_TRIP
     }
 }
 
@@ -67,9 +84,9 @@ void serve(void) {
     while (transfer(READ, request, sizeof request)) {
         if (request[0] >= OPERATIONS || request[1] > MOST) leave(3);
         size_t count = request[1];
-        size_t words = request[0] == MULTIPLY || request[0] == ADD ? 2 * count : count;
-        if (words > 0 && !transfer(READ, inputs, words * 8)) leave(2);
-        answer(request[0], count);
+        size_t words = arity(request[0]);
+        if (count > 0 && !transfer(READ, inputs, count * words * 8)) leave(2);
+        for (size_t i = 0; i < count; i++) answers[i] = answer(request[0], inputs + i * words);
         transfer(WRITE, answers, count * 8);
     }
     leave(0);

@@ -7,11 +7,6 @@ pub const COUNT: usize = 4096;
 
 const FRACTION: u64 = (1 << 52) - 1;
 
-/// A number in [0, 1), all alike.
-fn unit(random: &mut Generator) -> f64 {
-    (random.word() >> 11) as f64 / (1u64 << 53) as f64
-}
-
 fn words(next: impl FnMut() -> u64) -> Vec<u64> {
     std::iter::repeat_with(next).take(COUNT).collect()
 }
@@ -20,9 +15,9 @@ pub fn any_words(random: &mut Generator) -> Vec<u64> {
     words(|| random.word())
 }
 
-/// Even over [1e-3, 1e3].
-pub fn everyday(random: &mut Generator) -> Vec<u64> {
-    words(|| (1e-3 + unit(random) * (1e3 - 1e-3)).to_bits())
+/// Floats, even over [low, high].
+pub fn evenly(low: f64, high: f64, random: &mut Generator) -> Vec<u64> {
+    words(|| (low + random.unit() * (high - low)).to_bits())
 }
 
 /// Positive and finite, every exponent field alike.

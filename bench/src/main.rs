@@ -1,9 +1,11 @@
 //! The benchmark of bench/run: our functions, called through the static library, beside Rust's.
 
+mod cases;
 mod generator;
 mod inputs;
 mod variants;
 
+use cases::Case;
 use generator::Generator;
 use inputs::COUNT;
 use std::hint::black_box;
@@ -15,15 +17,6 @@ const SEED: u64 = 1;
 const ROUNDS: usize = 31;
 /// A stretch is long against the clock's step and short against what else the machine does.
 const STRETCH: Duration = Duration::from_millis(3);
-
-/// A function over a set of inputs, by three ways.
-struct Case {
-    function: &'static str,
-    set: &'static str,
-    left: Vec<u64>,
-    right: Vec<u64>,
-    variants: [Variant; 3],
-}
 
 /// Best and median ns a call.
 struct Times {
@@ -45,10 +38,10 @@ fn main() -> ExitCode {
         "{:13} {:26} {:14} {:>8} {:>8} {:>7} {:>11} {:>13}",
         "function", "inputs", "way", "best", "median", "noise", "ratio best", "ratio median"
     );
-    for case in cases() {
+    for case in cases::all(&mut Generator::new(SEED)) {
         if !ways_agree(&case) {
             eprintln!(
-                "bench: {} over {}: the sums of the results differ, so times say nothing",
+                "bench: {} over {}: the sums of the results differ too much, so times say nothing",
                 case.function, case.set
             );
             return ExitCode::from(1);
@@ -58,39 +51,13 @@ fn main() -> ExitCode {
     ExitCode::SUCCESS
 }
 
-fn cases() -> Vec<Case> {
-    let mut random = Generator::new(SEED);
-    let sets = [
-        ("[1e-3, 1e3]", inputs::everyday(&mut random)),
-        (
-            "positive, every exponent",
-            inputs::every_exponent(&mut random),
-        ),
-        ("subnormals", inputs::subnormals(&mut random)),
-    ];
-    let mut cases: Vec<Case> = sets
-        .into_iter()
-        .map(|(set, left)| Case {
-            function: "sqrt",
-            set,
-            left,
-            right: Vec::new(),
-            variants: variants::SQRT,
-        })
-        .collect();
-    cases.push(Case {
-        function: "wrapping_mul",
-        set: "any words",
-        left: inputs::any_words(&mut random),
-        right: inputs::any_words(&mut random),
-        variants: variants::WRAPPING_MUL,
-    });
-    cases
-}
-
+/// Whether the sums of the results' bits are as near to one another as the results may be.
 fn ways_agree(case: &Case) -> bool {
     let sums = case.variants.map(|way| (way.pass)(&case.left, &case.right));
-    sums.iter().all(|sum| *sum == sums[0])
+    sums.iter().all(|sum| {
+        let away = sum.wrapping_sub(sums[0]) as i64;
+        away.unsigned_abs() <= COUNT as u64 * case.steps
+    })
 }
 
 /// The time of `passes` passes. The inputs are hidden each time, so that no pass is left out.

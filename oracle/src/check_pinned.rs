@@ -7,7 +7,7 @@ const SAMPLES: usize = 240;
 
 /// The condition of the pinned `mul_add!` (mlsa.rs): whether its filter rounds once where plain
 /// multiplication and addition round twice.
-const FUSED: bool = cfg!(any(
+pub const FUSED: bool = cfg!(any(
     all(target_arch = "x86_64", target_feature = "fma"),
     all(target_arch = "aarch64", target_feature = "neon"),
 ));

@@ -21,4 +21,9 @@ impl Generator {
     pub fn below(&mut self, limit: u64) -> u64 {
         self.word() % limit
     }
+
+    /// A number in [0, 1), all alike.
+    pub fn unit(&mut self) -> f64 {
+        (self.word() >> 11) as f64 / (1u64 << 53) as f64
+    }
 }

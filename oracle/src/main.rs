@@ -2,17 +2,23 @@
 //! the square root's fixed list. A comparison that needs private functions of the pinned Rust may
 //! `include!("vocoder/FILE.rs")` into a module of its own: the copies stand beside this file.
 
+mod answerers;
 mod check_pinned;
 mod compare_bits;
+mod compare_frames;
 mod compare_sqrt;
 mod compare_wrapping;
 mod comparison;
 mod float_patterns;
+mod frames;
+mod generated_frames;
 mod generator;
 mod ours;
 mod roots;
+mod sides;
 
 use ours::{Bridge, Ours};
+use std::path::PathBuf;
 use std::process::ExitCode;
 
 const SEED: u64 = 1;
@@ -26,11 +32,18 @@ fn main() -> ExitCode {
             Ok(true)
         }
         ["roots"] => roots::print_roots().map(|()| true),
-        ["compare"] if cfg!(feature = "linked") => compare(Ours::Linked, "linked into the driver"),
-        ["compare", emulator, bridge] => Bridge::start(emulator, bridge)
+        [what @ ("compare" | "frames")] if cfg!(feature = "linked") => {
+            compare(what, Ours::Linked, "linked into the driver")
+        }
+        [what @ ("compare" | "frames"), emulator, bridge] => Bridge::start(emulator, bridge)
             .map_err(|error| format!("the bridge does not start: {error}"))
-            .and_then(|bridge| compare(Ours::Bridge(bridge), "x86-64 code under an emulator")),
-        _ => Err("usage: oracle patterns | roots | compare [EMULATOR BRIDGE]".to_string()),
+            .and_then(|bridge| {
+                compare(what, Ours::Bridge(bridge), "x86-64 code under an emulator")
+            }),
+        _ => Err(
+            "usage: oracle patterns | roots | compare [EMULATOR BRIDGE] | frames [EMULATOR BRIDGE]"
+                .to_string(),
+        ),
     };
     match done {
         Ok(true) => ExitCode::SUCCESS,
@@ -52,16 +65,29 @@ fn seed() -> Result<u64, String> {
     }
 }
 
-/// Runs every comparison, also after one that found a difference. True where all were equal.
-fn compare(mut ours: Ours, reached: &str) -> Result<bool, String> {
+/// The folder of the announcement: ORACLE_FRAMES, where it holds one.
+fn announcement_folder() -> Option<PathBuf> {
+    let folder = PathBuf::from(std::env::var_os("ORACLE_FRAMES")?);
+    folder.join("announcement.lf0").is_file().then_some(folder)
+}
+
+/// Runs every comparison, also after one that found a difference, or that of the frames alone. True
+/// where all were as they should be.
+fn compare(what: &str, mut ours: Ours, reached: &str) -> Result<bool, String> {
     let seed = seed()?;
     println!("seed {seed}; our functions: {reached}");
     if !check_pinned::run() {
         return Err("this build of the pinned Rust is not one to compare with".to_string());
     }
     let mut equal = true;
-    for comparison in [compare_sqrt::run, compare_wrapping::run, compare_bits::run] {
-        equal &= comparison(&mut ours, seed);
+    if what == "compare" {
+        for comparison in [compare_sqrt::run, compare_wrapping::run, compare_bits::run] {
+            equal &= comparison(&mut ours, seed);
+        }
     }
-    Ok(equal)
+    let folder = announcement_folder();
+    if folder.is_none() {
+        println!("the announcement is left out: its frames are not in ORACLE_FRAMES");
+    }
+    Ok(compare_frames::run(ours, seed, folder.as_deref())? && equal)
 }

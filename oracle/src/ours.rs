@@ -16,15 +16,22 @@ pub enum Operation {
     FloatOf = 3,
     BitsOf = 4,
     RoundTrip = 5,
+    Exp = 6,
+    Ln = 7,
+    Cos = 8,
+    InversePower = 9,
+    InverseRoot = 10,
 }
 
 impl Operation {
     /// How many words make one input.
     pub fn arity(self) -> usize {
-        if matches!(self, Operation::Multiply | Operation::Add) {
-            2
-        } else {
-            1
+        match self {
+            Operation::Multiply
+            | Operation::Add
+            | Operation::InversePower
+            | Operation::InverseRoot => 2,
+            _ => 1,
         }
     }
 }
@@ -61,16 +68,27 @@ mod linked {
         safe fn kipawnore_wrapping_add(a: u64, b: u64) -> u64;
         safe fn kipawnore_bits_of(x: f64) -> u64;
         safe fn kipawnore_float_of(b: u64) -> f64;
+        safe fn kipawnore_exp(x: f64) -> f64;
+        safe fn kipawnore_ln(x: f64) -> f64;
+        safe fn kipawnore_cos(x: f64) -> f64;
+        safe fn kipawnore_inverse_power(a: f64, s: u64) -> f64;
+        safe fn kipawnore_inverse_root(a: f64, s: u64) -> f64;
     }
 
     pub fn answer(operation: Operation, input: &[u64]) -> u64 {
+        let x = f64::from_bits(input[0]);
         match operation {
-            Operation::Sqrt => kipawnore_sqrt(f64::from_bits(input[0])).to_bits(),
+            Operation::Sqrt => kipawnore_sqrt(x).to_bits(),
             Operation::Multiply => kipawnore_wrapping_mul(input[0], input[1]),
             Operation::Add => kipawnore_wrapping_add(input[0], input[1]),
             Operation::FloatOf => kipawnore_float_of(input[0]).to_bits(),
-            Operation::BitsOf => kipawnore_bits_of(f64::from_bits(input[0])),
+            Operation::BitsOf => kipawnore_bits_of(x),
             Operation::RoundTrip => kipawnore_bits_of(kipawnore_float_of(input[0])),
+            Operation::Exp => kipawnore_exp(x).to_bits(),
+            Operation::Ln => kipawnore_ln(x).to_bits(),
+            Operation::Cos => kipawnore_cos(x).to_bits(),
+            Operation::InversePower => kipawnore_inverse_power(x, input[1]).to_bits(),
+            Operation::InverseRoot => kipawnore_inverse_root(x, input[1]).to_bits(),
         }
     }
 }

@@ -1,0 +1,13 @@
+mod Steps
+mod Words
+mod Inner
+mod Turns
+mod Exact
+mod Reduced
+mod Value
+mod Answers
+mod Meets
+mod Products
+mod Pattern
+mod Rest
+mod Inside

@@ -1,0 +1,88 @@
+-- What the functions of the sum compute is what the definition says. Assumes nothing.
+use mathlib.Core.Path.{_≡_, refl, sym, ap, _∙_, subst}
+use mathlib.Core.Bool.{false}
+use Prim.Native.Nat.{ℕ, zero, suc, _+_, _-_, _*_, _/_, _%_, _^_, _≤_, _<_}
+use native.Mathlib.Nat.{le-trans, le-of-eq, le-of-lt, mod-eq-of-lt, mul-div-mul-left, div-div-eq-div-mul, mul-le-mul, mul-one, one-mul, div-mul-le-self}
+use native.Mathlib.Omega.{arith}
+use lib.Dec.{lit≤, lit<}
+use borrow.Author.Tests.{lt-ltb, le-ltb}
+use lib.IntN.{pos, negsuc}
+use lib.Pow.{pow-pos}
+use lib.Ieee.{Float, fin, binary64, mul, neg, round, ofInt}
+use lib.Ieee.Back.{round-whole}
+use lib.Ieee.Exact.{HasValue}
+use lib.Ieee.Positive.{mul-at, positive-of-value}
+use Rattle.cosine.specs.Cos.{one, turn, pair, alternating, fallOf, floatOf, oneLess}
+use Rattle.cosine.proofs.Steps.{square-small}
+use Rattle.cosine.proofs.Value.{fall-is}
+use Rattle.cosine.proofs.Answers.{fall-small}
+use Rattle.cosine.proofs.Inner.{code-cap, product-cap}
+
+-- ---- products
+-- 2 ^ 64 is 32 times 1: the factors are moved up by five bits in all
+product-is : (a b x y h : ℕ) → x * y ≡ 32 * (a * b) → h ≡ x * y / 2 ^ 64 → h ≡ a * b / one
+product-is a b x y h e f = f ∙ ap (λ (z : ℕ). z / 2 ^ 64) e ∙ mul-div-mul-left (a * b) one (lit< tt)
+
+moved : (a b s t m n : ℕ) → a * s < m → b * t < m → s * t ≡ n → a * s % m * (b * t % m) ≡ n * (a * b)
+moved a b s t m n h k e = ap (λ (z : ℕ). z * (b * t % m)) (mod-eq-of-lt h) ∙ ap (λ (z : ℕ). a * s * z) (mod-eq-of-lt k) ∙ turn ∙ ap (λ (z : ℕ). z * (a * b)) e
+  where
+    turn : a * s * (b * t) ≡ s * t * (a * b)
+    turn = omega arith
+
+pub times-is : (a p h : ℕ) → a ≤ 10 * one → p ≤ one → h ≡ a * 2 ^ 1 % 2 ^ 64 * (p * 2 ^ 4 % 2 ^ 64) / 2 ^ 64 → h ≡ a * p / one
+times-is a p h A P e = product-is a p (a * 2 ^ 1 % 2 ^ 64) (p * 2 ^ 4 % 2 ^ 64) h (moved a p (2 ^ 1) (2 ^ 4) (2 ^ 64) 32 (omega arith) (omega arith) refl) e
+
+pub square-is : (r h : ℕ) → 2 * r ≤ turn → h ≡ r * 2 ^ 2 % 2 ^ 64 * (r * 2 ^ 3 % 2 ^ 64) / 2 ^ 64 → h ≡ r * r / one
+square-is r h R e = product-is r r (r * 2 ^ 2 % 2 ^ 64) (r * 2 ^ 3 % 2 ^ 64) h (moved r r (2 ^ 2) (2 ^ 3) (2 ^ 64) 32 (omega arith) (omega arith) refl) e
+
+-- ---- a turn of the loop: i is taken down to i - 1, and the divisor is that of i - 1
+pub turned : (a p i h : ℕ) → a ≤ 10 * one → 1 < i → i ≤ 31 → p ≡ alternating a i (31 - i) → h ≡ a * p / one
+    → (h / pair (i - 1) ≤ one) × (one - h / pair (i - 1) ≡ alternating a (i - 1) (31 - (i - 1)))
+unfolding alternating
+turned a p zero h A I J e q = absurd (omega arith)
+turned a p (suc j) h A I J e q =
+    let d : h / pair (suc j - 1) ≡ a * alternating a (suc j) (31 - suc j) / (one * pair j) = ap (λ (z : ℕ). h / pair z) (back j) ∙ ap (λ (z : ℕ). z / pair j) (q ∙ ap (λ (z : ℕ). a * z / one) e) ∙ div-div-eq-div-mul (a * alternating a (suc j) (31 - suc j)) one (pair j) in (
+      le-trans (le-of-eq d) (product-cap a j (31 - suc j) A (omega arith)),
+      ap (λ (z : ℕ). one - z) d ∙ sym (ap (λ (z : ℕ). alternating a z (31 - z)) (back j) ∙ ap (λ (z : ℕ). alternating a j z) (more j J)),
+    )
+  where
+    back : (j : ℕ) → suc j - 1 ≡ j
+    back j = omega arith
+
+    more : (j : ℕ) → suc j ≤ 31 → 31 - j ≡ suc (31 - suc j)
+    more j k = omega arith
+
+pub divisor-most : (i : ℕ) → i ≤ 31 → pair (i - 1) ≤ 3782
+divisor-most i h = mul-le-mul {n₁ = 2 * (i - 1) + 1} {m₁ = 2 * (i - 1) + 2} {n₂ = 61} {m₂ = 62} (omega arith) (omega arith)
+
+-- ---- a whole number times 2 ^ -51
+pub over-2^51 : (m : ℕ) → m ≤ 2 ^ 53 → mul binary64 (ofInt binary64 (pos m)) (fin false 1 (negsuc 50)) ≡ round binary64 false m (2 ^ 51)
+unfolding mul ofInt round
+over-2^51 zero h = refl
+over-2^51 (suc m) h =
+    let v : HasValue (round binary64 false (suc m) 1) false (suc m) 1 = round-whole binary64 false (suc m) h in
+    mul-at binary64 (round binary64 false (suc m) 1) (fin false 1 (negsuc 50)) (suc m) 1 1 (2 ^ 51) (positive-of-value (round binary64 false (suc m) 1) (suc m) 1 v (omega arith)) tt (lit< tt) (pow-pos 51) v (refl, refl)
+    ∙ ap (λ (z : ℕ). round binary64 false z (1 * 2 ^ 51)) (mul-one (suc m)) ∙ ap (λ (z : ℕ). round binary64 false (suc m) z) (one-mul (2 ^ 51))
+
+-- ---- the whole sum
+pub small-square : (r a : ℕ) → 2 * r ≤ turn → a ≡ r * r / one → a ≤ 10 * one
+small-square r a h e = subst (λ (z : ℕ). z ≤ 10 * one) (sym e) (square-small one r (r * r / one) (lit≤ tt) (omega arith) (div-mul-le-self (r * r) one))
+
+pub fall-code : (r a p t : ℕ) → a ≡ r * r / one → p ≡ alternating a 1 30 → t ≡ a * p / one → t / 2 ≡ fallOf r
+fall-code r a p t e f h =
+    ap (λ (z : ℕ). z / 2) (h ∙ ap (λ (z : ℕ). a * z / one) f) ∙ div-div-eq-div-mul (a * alternating a 1 30) one 2 ∙ ap (λ (z : ℕ). z * alternating z 1 30 / (one * 2)) e ∙ sym (fall-is r)
+
+-- it is below 5, so that it leaves room for a float
+pub fall-room : (r q : ℕ) → 2 * r ≤ turn → q ≡ fallOf r → q - one + 128 < 2 ^ 61
+fall-room r q h e = go q (subst (λ (z : ℕ). 800 * z ≤ 3969 * one) (sym e) (fall-small r (omega arith)))
+  where
+    go : (q : ℕ) → 800 * q ≤ 3969 * one → q - one + 128 < 2 ^ 61
+    go q h = omega arith
+
+pub one-less-below : (q f : ℕ) (y : Float) → f ≡ q → one < f → y ≡ floatOf (f - one) → neg y ≡ oneLess q
+unfolding oneLess
+one-less-below q f y e h k = ap neg k ∙ subst (λ (z : ℕ). neg (floatOf (f - one)) ≡ oneLess z) e (rw (lt-ltb one f h) refl)
+
+pub one-less-above : (q f : ℕ) (y : Float) → f ≡ q → f ≤ one → y ≡ floatOf (one - f) → y ≡ oneLess q
+unfolding oneLess
+one-less-above q f y e h k = k ∙ subst (λ (z : ℕ). floatOf (one - f) ≡ oneLess z) e (rw (le-ltb one f h) refl)

@@ -1,0 +1,2 @@
+pub mod Cos
+pub mod Examples

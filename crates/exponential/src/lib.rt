@@ -1,0 +1,69 @@
+// e to the power of a float.
+ghost use mathlib.Core.Path.{_≡_};
+ghost use Prim.Native.Nat.{_+_, _-_, _*_, _^_, _≤_};
+ghost use Rattle.elementary.specs.Exact.{ExpAnswer};
+ghost use Rattle.exponential.specs.Exp.{multiples, powerOfTwo, restOf, insideOf, expOf};
+
+mod polynomial;
+mod reduction;
+
+use crate::polynomial::polynomial;
+use crate::reduction::multiple;
+use crate::reduction::nearest;
+use crate::reduction::units;
+
+// 2^k, or 2^-k.
+fn power_of_two(negative: bool, k: u64) -> f64
+    requires { ⌜ k ≤ 1023 ⌝ }
+    ensures { λ r. ⌜ r ≡ powerOfTwo negative k ⌝ }
+{
+    let e = if negative { 1023 - k } else { 1023 + k };
+    f64::from_bits(e << 52)
+}
+
+// The rest u - m as a float, exactly; m - u where the argument is negative.
+fn rest(negative: bool, u: u64, m: u64) -> f64
+    requires { ⌜ (u - m) + (m - u) ≤ 2 ^ 53 ⌝ }
+    ensures { λ r. ⌜ r ≡ restOf negative u m ⌝ }
+{
+    let over = u < m;
+    let size = if over { m - u } else { u - m };
+    let unit = if over != negative {
+        -5.5511151231257827021181583404541015625e-17
+    } else {
+        5.5511151231257827021181583404541015625e-17
+    };
+    (size as f64) * unit
+}
+
+// The answer for an argument of u units and its k.
+fn inside(negative: bool, u: u64, k: u64) -> f64
+    requires { ⌜ (k ≤ 1023) × ((u - multiples (2 * k)) + (multiples (2 * k) - u) ≤ 2 ^ 53) ⌝ }
+    ensures { λ r. ⌜ r ≡ insideOf negative u k ⌝ }
+{
+    let m = multiple(2 * k);
+    let power = power_of_two(negative, k);
+    if u == m {
+        return power;
+    }
+    polynomial(rest(negative, u, m)) * power
+}
+
+// e^x: NaN of the NaN, the infinity above 709, zero below -708.
+pub fn exp(x: f64) -> f64
+    ensures { λ r. ⌜ r ≡ expOf x ⌝ }
+    ensures { λ r. ⌜ ExpAnswer x r ⌝ }
+{
+    if x != x {
+        return x;
+    }
+    if x > 709.0 {
+        return 1.0 / 0.0;
+    }
+    if x < -708.0 {
+        return 0.0;
+    }
+    let b = f64::to_bits(x);
+    let u = units(b % 0x8000_0000_0000_0000);
+    inside(b >= 0x8000_0000_0000_0000, u, nearest(u))
+}

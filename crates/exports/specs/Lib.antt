@@ -1,0 +1,2 @@
+-- The definition that the contracts cite beside those of the functions called.
+pub mod Number

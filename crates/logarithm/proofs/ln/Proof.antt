@@ -1,0 +1,60 @@
+-- `ln` meets its contract, branch by branch. Assumes nothing.
+use mathlib.Core.Path.{_≡_, refl, sym, ap, _∙_, subst}
+use mathlib.Core.Bool.{true, false}
+use lib.Dec.{T}
+use lib.Ieee.{Float, binary64, fits, ofBits, toBits, div}
+use Rattle.elementary.specs.declared.answer.Answer.{Answer}
+use Rattle.elementary.specs.declared.answer.Answer.the-variants.{Outside, Inside}
+use Rattle.elementary.specs.Exact.{lnInside, LnAnswer}
+use Rattle.logarithm.specs.Ln.{ofPattern, lnOf}
+use Rattle.logarithm.proofs.Inside.{inside, outside-below, outside-above, normal-above, number, bits-least, bits-most}
+use Rattle.logarithm.proofs.Found.{near}
+use Rattle.logarithm.proofs.ln.Statement.{statement}
+use Rattle.logarithm.proofs.ln.Tie as tie
+
+-- binary64 holds the argument
+held : (c : tie.Start) → T (fits binary64 (c .args .x))
+held c = subst T (sym (c .good .0 .1)) tt
+
+-- where both tests pass it is inside
+within : (c : tie.Then2) → lnInside (c .before .before .args .x) ≡ true
+unfolding ofBits div
+within c = inside (c .before .before .args .x) (c .before .if1 .taken) (c .if2 .taken)
+
+within-T : (c : tie.Then2) → T (lnInside (c .before .before .args .x))
+within-T c = subst T (sym (within c)) tt
+
+float-to-bits-of-pattern : tie.Need-float-to-bits-of-pattern
+float-to-bits-of-pattern c = let x = c .before .before .args .x in number x (normal-above x (within-T c))
+
+of-pattern-requires : tie.Need-of-pattern-requires
+of-pattern-requires c κs =
+    let x = c .before .before .args .x in
+    (bits-least x (held (c .before .before)) (within-T c), bits-most x (held (c .before .before)) (within-T c))
+
+-- the second clause follows from the first
+meets : (x : Float) (r : Answer) → T (fits binary64 x) → r ≡ lnOf x → (r ≡ lnOf x) × LnAnswer x r
+meets x r f e = (e, subst (LnAnswer x) (sym e) (near x f))
+
+at-inside : (x : Float) → lnInside x ≡ true → Inside (ofPattern (toBits binary64 x)) ≡ lnOf x
+unfolding lnOf
+at-inside x e = rw e refl
+
+at-outside : (x : Float) → lnInside x ≡ false → Outside ≡ lnOf x
+unfolding lnOf
+at-outside x e = rw e refl
+
+returns : tie.Need-returns
+returns c =
+    let x = c .before .before .before .args .x in
+    meets x (Inside (c .of-pattern .result)) (held (c .before .before .before)) (ap Inside (c .of-pattern .ensures) ∙ at-inside x (within (c .before)))
+
+returns-2 : tie.Need-returns-2
+unfolding ofBits div
+returns-2 c = let x = c .before .before .args .x in meets x Outside (held (c .before .before)) (at-outside x (outside-above x (c .before .if1 .taken) (c .if2 .left)))
+
+returns-3 : tie.Need-returns-3
+returns-3 c = let x = c .before .args .x in meets x Outside (held (c .before)) (at-outside x (outside-below x (c .if1 .left)))
+
+pub ln-spec : {M : Type 1} → statement M
+ln-spec = tie.close (tie.spec float-to-bits-of-pattern of-pattern-requires returns returns-2 returns-3)

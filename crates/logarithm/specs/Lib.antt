@@ -1,0 +1,3 @@
+-- The definitions that the logarithm's contracts cite, with points that are computed.
+pub mod Ln
+pub mod Points
