@@ -1,20 +1,18 @@
 -- The float that is the answer: the code's units over 2 ^ 59 within 128 units, and so within 2 ^ -44 of the value. Assumes nothing.
-use mathlib.Core.Path.{_≡_, refl, sym, ap, _∙_, subst}
+use mathlib.Core.Path.{_≡_, refl, sym, ap, subst}
 use mathlib.Core.Bool.{Bool, true, false, cond, true≢false}
 use Prim.Native.Nat.{ℕ, _+_, _-_, _*_, _/_, _^_, _≤_, _<_}
 use native.Mathlib.Nat.{le-trans, lt-of-lt-of-le, mul-assoc, mul-le-mul, mul-le-mul-left, mul-le-mul-right, mul-lt-mul-of-pos-right, le-of-mul-le-mul-left, div-mul-le-self}
 use native.Mathlib.Omega.{arith}
 use lib.Dec.{T, ltb, lit≤, lit<}
-use lib.Pow.{pow-add, pow-pos, pow-mono}
-use lib.Ieee.{Float, nan, inf, fin, binary64, fits, round, neg, up, down}
+use lib.Pow.{pow-pos, pow-mono}
+use lib.Ieee.{Float, nan, inf, fin, binary64, round, neg, up, down}
 use lib.Ieee.Exact.{HasValue, round-exact}
-use lib.Ieee.Fits.{round-fits, neg-fits}
 use borrow.Author.Tests.{ltb-true, ltb-false}
 use Rattle.number.specs.Range.{finite}
-use Rattle.elementary.specs.Fraction.{Whole, Fraction, signed}
+use Rattle.elementary.specs.Fraction.{Fraction, signed}
 use Rattle.elementary.specs.Band.{valueOf, Within}
-use Rattle.cosine.specs.Cos.{one, gap, alternating, fallOf, floatOf, oneLess}
-use Rattle.cosine.proofs.Steps.{square-small}
+use Rattle.cosine.specs.Cos.{one, gap, alternating, fallOf, floatOf, oneLess, steps}
 use Rattle.cosine.proofs.Inner.{code-cap}
 use Rattle.cosine.proofs.Exact.{gap-mul}
 use Rattle.cosine.proofs.Value.{Fall, fall-is}
@@ -38,14 +36,14 @@ size-most p m t b h k = subst (λ (z : ℕ). z ≤ b) (sym (gap-mul p m t)) (go 
     go x y h k = omega arith
 
 -- p / d is n multiples of 2 ^ -51, which are a units within 128, and 1 less q units is near v
-module _ (p d n a q : ℕ) (v : Fraction) (is : p * 2 ^ 51 ≡ n * d) (lo : 256 * n ≤ a + 128) (hi : a ≤ 256 * n + 128) (near : Fall q v) where
+module _ (p d n a q : ℕ) (v : Fraction) (is : p * 2 ^ 51 ≡ n * d) (lo : 256 * n ≤ a + 128) (hi : a ≤ 256 * n + 128) (near : Fall 174 q v) where
   abbrev E : ℕ
   E = v .under
 
   facts : (256 * n * (d * E) ≤ (a + 128) * (d * E)) × (a * (d * E) ≤ (256 * n + 128) * (d * E)) × (p * 2 ^ 51 * E ≡ n * d * E)
   facts = (mul-le-mul-right (d * E) lo, mul-le-mul-right (d * E) hi, ap (λ (z : ℕ). z * E) is)
 
-  pub above-zero : q + a ≡ one → Within 44 (record { over = signed false p; under = d }) v
+  above-zero : q + a ≡ one → Within 44 (record { over = signed false p; under = d }) v
   above-zero e =
       let f = facts in
       let g : (q + a) * (d * E) ≡ one * (d * E) = ap (λ (z : ℕ). z * (d * E)) e in
@@ -53,7 +51,7 @@ module _ (p d n a q : ℕ) (v : Fraction) (is : p * 2 ^ 51 ≡ n * d) (lo : 256 
       let k = mul-le-mul-right d (near .lo) in
       size-most (p * E + v .over .minus * d) (0 * E + v .over .plus * d) (2 ^ 44) (d * E) (le-of-mul-le-mul-left {k = 32768} (omega arith) (lit< tt)) (le-of-mul-le-mul-left {k = 32768} (omega arith) (lit< tt))
 
-  pub below-zero : one + a ≡ q → Within 44 (record { over = signed true p; under = d }) v
+  below-zero : one + a ≡ q → Within 44 (record { over = signed true p; under = d }) v
   below-zero e =
       let f = facts in
       let g : (one + a) * (d * E) ≡ q * (d * E) = ap (λ (z : ℕ). z * (d * E)) e in
@@ -67,7 +65,7 @@ fall-small r h =
     let a = r * r / one in
     let s : 400 * a ≤ 3969 * one = square one r a (lit≤ tt) h (div-mul-le-self (r * r) one) in
     subst (λ (z : ℕ). 800 * z ≤ 3969 * one) (sym (fall-is r))
-    (half one a (alternating a 1 30) (a * alternating a 1 30 / (one * 2)) (lit≤ tt) s (code-cap a 1 30 (omega arith) (lit≤ tt)) (div-mul-le-self (a * alternating a 1 30) (one * 2)))
+    (half one a (alternating a 1 steps) (a * alternating a 1 steps / (one * 2)) (lit≤ tt) s (code-cap a 1 steps (omega arith) (lit≤ tt)) (div-mul-le-self (a * alternating a 1 steps) (one * 2)))
   where
     square : (U r a : ℕ) → 1 ≤ U → 20 * r ≤ 63 * U → a * U ≤ r * r → 400 * a ≤ 3969 * U
     square U r a U⁺ h k = le-of-mul-le-mul-left {k = U} (omega (arith, mul-le-mul h h)) U⁺
@@ -75,7 +73,7 @@ fall-small r h =
     half : (U a p q : ℕ) → 1 ≤ U → 400 * a ≤ 3969 * U → p ≤ U → q * (U * 2) ≤ a * p → 800 * q ≤ 3969 * U
     half U a p q U⁺ h k l = le-of-mul-le-mul-left {k = U} (omega (arith, mul-le-mul-right U h, mul-le-mul-left a k)) U⁺
 
-pub near-one-less : (q : ℕ) (v : Fraction) → 800 * q ≤ 3969 * one → Fall q v → T (finite (oneLess q)) × Within 44 (valueOf (oneLess q)) v
+pub near-one-less : (q : ℕ) (v : Fraction) → 800 * q ≤ 3969 * one → Fall 174 q v → T (finite (oneLess q)) × Within 44 (valueOf (oneLess q)) v
 unfolding oneLess neg
 near-one-less q v h f = go (ltb one q) refl
   where

@@ -1,9 +1,9 @@
 -- The code's angle is within 3 units of the exact one. |x| is A / D exactly and u / U in the code, U units to 1; G / D is 2P. Assumes nothing.
-use mathlib.Core.Path.{_≡_, refl, sym, ap, _∙_, subst}
+use mathlib.Core.Path.{_≡_, ap, _∙_}
 use mathlib.Core.Bool.{Bool, true, false}
 use mathlib.Core.Logic.{_⊎_, inl, inr}
 use Prim.Native.Nat.{ℕ, suc, _+_, _-_, _*_, _/_, _^_, _≤_, _<_}
-use native.Mathlib.Nat.{le-antisymm, le-of-eq, lt-of-not-le, mul-comm, mul-sub, mul-le-mul-left, mul-le-mul-right, le-of-mul-le-mul-left, mul-pos, div-mul-le-self, lt-div-mul-add, suc-mul}
+use native.Mathlib.Nat.{le-antisymm, lt-of-not-le, mul-comm, mul-sub, mul-le-mul-left, mul-le-mul-right, le-of-mul-le-mul-left, div-mul-le-self, lt-div-mul-add, suc-mul}
 use native.Mathlib.Decide.{decLe}
 use native.Mathlib.Omega.{arith}
 use lib.Dec.{lit≤, lit<}

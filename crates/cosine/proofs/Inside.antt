@@ -1,19 +1,18 @@
 -- A float inside and its bits, the sign aside: what `cos` hands on. Assumes nothing.
-use mathlib.Core.Path.{_≡_, refl, sym, ap, _∙_, subst}
+use mathlib.Core.Path.{_≡_, sym, ap, _∙_, subst}
 use mathlib.Core.Bool.{Bool, true, false, not, cond}
 use Prim.Native.Nat.{ℕ, zero, suc, _+_, _-_, _*_, _/_, _%_, _^_, _≤_, _<_}
 use native.Mathlib.Nat.{le-trans, le-of-eq, lt-of-lt-of-le, lt-of-not-le, lt-irrefl, mul-le-mul-right, le-of-mul-le-mul-right}
 use native.Mathlib.Decide.{decLe}
 use native.Mathlib.Omega.{arith}
 use lib.IntN.{ℤ}
-use lib.Dec.{T, lit≤}
+use lib.Dec.{T}
 use lib.Pow.{pow-pos}
 use lib.Ieee.{Float, nan, inf, fin, binary64, fits, isNan, up, down, le, neg, ofBits, toBits, size}
 use lib.Ieee.Bits.{ofBits-toBits, is-true}
 use lib.Ieee.Exact.{HasValue}
 use lib.Ieee.Fits.{down-pos}
 use lib.Ieee.Nearest.{div-same}
-use lib.Ieee.Positive.{num, den}
 use Rattle.root.specs.Parts.{patternUnits}
 use Rattle.root.proofs.Parts.{H}
 use Rattle.root.proofs.Floats.{INF, bits-below, pattern-value, pattern-order}
@@ -82,7 +81,7 @@ inside-bits (inf true) f h = absurd h
 inside-bits (inf false) f h = absurd h
 inside-bits (fin s m e) f h = bits-most s m e f (inside-bound (fin s m e) h)
 
-pub inside-units : (x : Float) → T (fits binary64 x) → T (cosInside x) → patternUnits (toBits binary64 x % 2 ^ 63) * 2 ^ 59 / 2 ^ 1074 ≡ unitsOf x
+inside-units : (x : Float) → T (fits binary64 x) → T (cosInside x) → patternUnits (toBits binary64 x % 2 ^ 63) * 2 ^ 59 / 2 ^ 1074 ≡ unitsOf x
 unfolding unitsOf le neg ofBits
 inside-units nan f h = absurd h
 inside-units (inf true) f h = absurd h
@@ -90,7 +89,7 @@ inside-units (inf false) f h = absurd h
 inside-units (fin s m e) f h = sym (units-same s m e f)
 
 -- ---- the two answers
-chosen : (x : Float) → cosInside x ≡ true → Inside (cosInsideOf x) ≡ cosOf x
+pub chosen : (x : Float) → cosInside x ≡ true → Inside (cosInsideOf x) ≡ cosOf x
 unfolding cosOf
 chosen x t = ap (λ (b : Bool). answer b (cosInsideOf x)) (sym t)
 

@@ -1,20 +1,19 @@
 -- The definition that the code follows answers as document 01 asks. Assumes nothing.
 use mathlib.Core.Path.{_≡_, refl, sym, ap, _∙_, subst}
-use mathlib.Core.Bool.{Bool, true, false, not, _&&_, _||_, true≢false, Bool·beq}
-use Prim.Native.Nat.{ℕ, zero, suc, _+_, _*_, _/_, _^_, _≤_, _<_}
-use native.Mathlib.Nat.{le-of-lt, le-of-eq, mul-pos, zero-mul, zero-div}
+use mathlib.Core.Bool.{Bool, true, false, _&&_, _||_, Bool·beq}
+use Prim.Native.Nat.{ℕ, _*_, _/_, _^_, _≤_}
+use native.Mathlib.Nat.{le-of-lt, le-of-eq, zero-div}
 use native.Mathlib.Omega.{arith}
-use lib.IntN.{ℤ, pos}
+use lib.IntN.{pos}
 use lib.Dec.{T, ltb, eqb, ltb→lt, eqb→eq}
-use lib.Ieee.{Float, nan, inf, fin, binary64, up, down, le, lt, eq, neg, ofBits, round}
-use lib.Ieee.Fits.{and-l, and-r, up-pos, down-pos}
-use lib.Ieee.Positive.{num, den, den-pos}
+use lib.Ieee.{Float, nan, inf, fin, up, down, le, lt, eq, neg, ofBits, round}
+use lib.Ieee.Fits.{and-l, and-r}
+use lib.Ieee.Positive.{num, den}
 use Rattle.number.specs.F64.{0f, 1f}
 use Rattle.number.specs.Range.{finite}
 use Rattle.elementary.specs.Band.{valueOf, Within, Says}
 use Rattle.elementary.specs.Exact.{cosInside, cosValue, CosAnswer}
-use Rattle.cosine.specs.Cos.{one, unitsOf, restOf, fallOf, oneLess, cosInsideOf, answer, cosOf}
-use Rattle.cosine.proofs.Steps.{Angle}
+use Rattle.cosine.specs.Cos.{unitsOf, restOf, fallOf, oneLess, cosInsideOf, answer, cosOf}
 use Rattle.cosine.proofs.Reduced.{angle}
 use Rattle.cosine.proofs.Value.{fall}
 use Rattle.cosine.proofs.Answers.{fall-small, near-one-less}

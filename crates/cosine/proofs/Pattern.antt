@@ -2,11 +2,11 @@
 use mathlib.Core.Path.{_≡_, refl, sym, ap, _∙_, subst}
 use mathlib.Core.Logic.{_⊎_, inl, inr}
 use Prim.Native.Nat.{ℕ, _+_, _-_, _*_, _/_, _%_, _^_, _≤_, _<_}
-use native.Mathlib.Nat.{le-trans, le-of-eq, le-of-lt, mod-eq-of-lt, mul-one, div-div-eq-div-mul, mul-div-mul-right, div-le-of-le-mul, eq-or-lt-of-le, lt-of-lt-of-le, lt-of-le-of-lt, lt-of-not-le, add-comm, mul-comm, mul-assoc, mul-pos, mul-le-mul-right, mul-lt-mul-of-pos-right, mul-div-cancel, mul-div-mul-left, div-eq-of-lt, div-le-self}
+use native.Mathlib.Nat.{le-trans, le-of-eq, le-of-lt, mod-eq-of-lt, mul-one, div-div-eq-div-mul, mul-div-mul-right, div-le-of-le-mul, eq-or-lt-of-le, lt-of-lt-of-le, lt-of-le-of-lt, lt-of-not-le, add-comm, mul-comm, mul-assoc, mul-le-mul-right, mul-lt-mul-of-pos-right, mul-div-cancel, mul-div-mul-left, div-eq-of-lt, div-le-self}
 use native.Mathlib.Decide.{decLe}
 use native.Mathlib.Omega.{arith}
 use lib.Dec.{lit≤, lit<}
-use lib.Pow.{pow-add, pow-pos, pow-mono, pow-lt}
+use lib.Pow.{pow-add, pow-pos, pow-mono}
 use Rattle.root.specs.Parts.{patternUnits}
 use Rattle.root.proofs.Parts.{H, subnormal, normal}
 use Rattle.root.proofs.Floats.{pattern-order}

@@ -2,7 +2,7 @@
 use mathlib.Core.Path.{_≡_, refl, sym, ap, _∙_, subst}
 use mathlib.Core.Bool.{false}
 use Prim.Native.Nat.{ℕ, zero, suc, _+_, _-_, _*_, _/_, _%_, _^_, _≤_, _<_}
-use native.Mathlib.Nat.{le-trans, le-of-eq, le-of-lt, mod-eq-of-lt, mul-div-mul-left, div-div-eq-div-mul, mul-le-mul, mul-one, one-mul, div-mul-le-self}
+use native.Mathlib.Nat.{le-trans, le-of-eq, mod-eq-of-lt, mul-div-mul-left, div-div-eq-div-mul, mul-le-mul, mul-one, one-mul, div-mul-le-self}
 use native.Mathlib.Omega.{arith}
 use lib.Dec.{lit≤, lit<}
 use borrow.Author.Tests.{lt-ltb, le-ltb}
@@ -12,11 +12,11 @@ use lib.Ieee.{Float, fin, binary64, mul, neg, round, ofInt}
 use lib.Ieee.Back.{round-whole}
 use lib.Ieee.Exact.{HasValue}
 use lib.Ieee.Positive.{mul-at, positive-of-value}
-use Rattle.cosine.specs.Cos.{one, turn, pair, alternating, fallOf, floatOf, oneLess}
+use Rattle.cosine.specs.Cos.{one, turn, pair, alternating, fallOf, floatOf, oneLess, steps}
 use Rattle.cosine.proofs.Steps.{square-small}
 use Rattle.cosine.proofs.Value.{fall-is}
 use Rattle.cosine.proofs.Answers.{fall-small}
-use Rattle.cosine.proofs.Inner.{code-cap, product-cap}
+use Rattle.cosine.proofs.Inner.{product-cap}
 
 -- ---- products
 -- 2 ^ 64 is 32 times 1: the factors are moved up by five bits in all
@@ -68,9 +68,9 @@ over-2^51 (suc m) h =
 pub small-square : (r a : ℕ) → 2 * r ≤ turn → a ≡ r * r / one → a ≤ 10 * one
 small-square r a h e = subst (λ (z : ℕ). z ≤ 10 * one) (sym e) (square-small one r (r * r / one) (lit≤ tt) (omega arith) (div-mul-le-self (r * r) one))
 
-pub fall-code : (r a p t : ℕ) → a ≡ r * r / one → p ≡ alternating a 1 30 → t ≡ a * p / one → t / 2 ≡ fallOf r
+pub fall-code : (r a p t : ℕ) → a ≡ r * r / one → p ≡ alternating a 1 steps → t ≡ a * p / one → t / 2 ≡ fallOf r
 fall-code r a p t e f h =
-    ap (λ (z : ℕ). z / 2) (h ∙ ap (λ (z : ℕ). a * z / one) f) ∙ div-div-eq-div-mul (a * alternating a 1 30) one 2 ∙ ap (λ (z : ℕ). z * alternating z 1 30 / (one * 2)) e ∙ sym (fall-is r)
+    ap (λ (z : ℕ). z / 2) (h ∙ ap (λ (z : ℕ). a * z / one) f) ∙ div-div-eq-div-mul (a * alternating a 1 steps) one 2 ∙ ap (λ (z : ℕ). z * alternating z 1 steps / (one * 2)) e ∙ sym (fall-is r)
 
 -- it is below 5, so that it leaves room for a float
 pub fall-room : (r q : ℕ) → 2 * r ≤ turn → q ≡ fallOf r → q - one + 128 < 2 ^ 61

@@ -12,6 +12,7 @@ use Rattle.cosine.proofs.Turns.{turns-small, multiple-near, Folded, fol
 use Rattle.cosine.proofs.Exact.{multiple-low, multiple-high, gaps, fold-near, nearest-half, same-turn}
 use Rattle.cosine.proofs.Steps.{Angle}
 
+-- 2P in units lies from `turn` to the next whole number, and P is at most 3.15
 turn-low : turn * ten40 ≤ 2 * P40 * one
 unfolding ten40 P40
 turn-low = lit≤ tt
@@ -32,30 +33,31 @@ P40-above : 0 < P40
 unfolding P40
 P40-above = lit< tt
 
--- ---- the angle
+-- In the module: |x| is A / D, and u units; 2P is G / D; the code's multiple is k * 2P.
 module _ (x : Float) (within : num x ≤ 2 ^ 20 * den x) where
   abbrev u : ℕ
   u = unitsOf x
 
-  abbrev pub A : ℕ
+  abbrev A : ℕ
   A = num x * ten40
 
   abbrev pub D : ℕ
   D = den x * ten40
 
-  abbrev pub G : ℕ
+  abbrev G : ℕ
   G = 2 * (den x * P40)
 
   abbrev k : ℕ
   k = turnsOf (u / one)
 
-  pub u-most : u ≤ 2 ^ 79
+  u-most : u ≤ 2 ^ 79
   unfolding unitsOf
   u-most = go (num x * 2 ^ 59 / den x) (div-mul-le-self (num x * 2 ^ 59) (den x))
     where
       go : (q : ℕ) → q * den x ≤ num x * 2 ^ 59 → q ≤ 2 ^ 79
       go q h = le-of-mul-le-mul-left {k = den x} (omega (arith, mul-le-mul-right (2 ^ 59) within)) (den-pos x)
 
+  -- |x| within a unit
   u-low : u * D ≤ A * one
   unfolding unitsOf
   u-low = go (num x * 2 ^ 59 / den x) ten40 (div-mul-le-self (num x * 2 ^ 59) (den x))
@@ -76,6 +78,7 @@ module _ (x : Float) (within : num x ≤ 2 ^ 20 * den x) where
       go : (q : ℕ) → q ≤ 2 ^ 79 → q / one ≤ 2 ^ 20
       go q h = omega arith
 
+  -- the multiple within 2 units
   m-low : multiple k * D ≤ k * G * one
   m-low = go (multiple k) k ten40 P40 (multiple-low k)
     where
@@ -88,6 +91,7 @@ module _ (x : Float) (within : num x ≤ 2 ^ 20 * den x) where
       go : (m k l p : ℕ) → k * (2 * p) * one ≤ m * l + 2 * l → k * (2 * (den x * p)) * one ≤ m * (den x * l) + 2 * (den x * l)
       go m k l p h = omega (arith, mul-le-mul-right (den x) h)
 
+  -- 2P within a unit
   g-low : turn * D ≤ G * one
   g-low = go ten40 P40 turn-low
     where
@@ -100,12 +104,13 @@ module _ (x : Float) (within : num x ≤ 2 ^ 20 * den x) where
       go : (l p : ℕ) → 2 * p * one ≤ (turn + 1) * l → 2 * (den x * p) * one ≤ turn * (den x * l) + den x * l
       go l p h = omega (arith, mul-le-mul-right (den x) h)
 
-  D⁺ : 0 < D
+  pub D⁺ : 0 < D
   D⁺ = mul-pos (den-pos x) ten40-above
 
   G⁺ : 0 < G
   G⁺ = mul-pos (lit< tt) (mul-pos (den-pos x) P40-above)
 
+  -- how far |x| is from the code's multiple, in units and exactly, and from the nearest
   abbrev S : ℕ
   S = gap u (multiple k)
 

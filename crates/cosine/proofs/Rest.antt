@@ -3,8 +3,8 @@ use mathlib.Core.Path.{_≡_, refl, sym, ap, _∙_, subst}
 use Prim.Native.Nat.{ℕ, _+_, _-_, _*_, _/_, _^_, _≤_, _<_}
 use native.Mathlib.Omega.{arith}
 use borrow.Author.Tests.{lt-ltb, le-ltb}
-use Rattle.cosine.specs.Cos.{one, turn, turnsOf, multiple, gap, fold, restOf}
-use Rattle.cosine.proofs.Turns.{turns-small, multiple-near, Folded, folded}
+use Rattle.cosine.specs.Cos.{one, turn, turnsOf, multiple, gap, fold, restOf, halfTurn}
+use Rattle.cosine.proofs.Turns.{turns-small, multiple-near, folded}
 
 -- the multiple for the whole part w
 abbrev pub multipleAt : ℕ → ℕ
@@ -12,7 +12,7 @@ multipleAt w = multiple ((w * 683565275 + 2147483648) / 2 ^ 32)
 
 -- the whole part w and the multiplier k are small
 module _ (u w : ℕ) (h : u ≤ 2 ^ 79) (e : w ≡ u / one) where
-  pub whole-small : w ≤ 2 ^ 20
+  whole-small : w ≤ 2 ^ 20
   whole-small = omega arith
 
   pub turns-room : w * 683565275 + 2147483648 < 2 ^ 64
@@ -47,10 +47,10 @@ module _ (u w : ℕ) (h : u ≤ 2 ^ 79) (e : w ≡ u / one) where
     half : 2 * fold far ≤ turn
     half = folded far far-small .half
 
-    pub over-half : 1811004864519280710 < far → (turn - far ≡ restOf u) × (2 * (turn - far) ≤ turn)
+    pub over-half : halfTurn < far → (turn - far ≡ restOf u) × (2 * (turn - far) ≤ turn)
     unfolding fold
-    over-half l = let p : turn - far ≡ fold far = rw (lt-ltb 1811004864519280710 far l) refl in (p ∙ is, subst (λ (z : ℕ). 2 * z ≤ turn) (sym p) half)
+    over-half l = let p : turn - far ≡ fold far = rw (lt-ltb halfTurn far l) refl in (p ∙ is, subst (λ (z : ℕ). 2 * z ≤ turn) (sym p) half)
 
-    pub up-to-half : far ≤ 1811004864519280710 → (far ≡ restOf u) × (2 * far ≤ turn)
+    pub up-to-half : far ≤ halfTurn → (far ≡ restOf u) × (2 * far ≤ turn)
     unfolding fold
-    up-to-half l = let p : far ≡ fold far = rw (le-ltb 1811004864519280710 far l) refl in (p ∙ is, subst (λ (z : ℕ). 2 * z ≤ turn) (sym p) half)
+    up-to-half l = let p : far ≡ fold far = rw (le-ltb halfTurn far l) refl in (p ∙ is, subst (λ (z : ℕ). 2 * z ≤ turn) (sym p) half)

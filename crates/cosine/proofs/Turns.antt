@@ -2,12 +2,12 @@
 use mathlib.Core.Path.{_≡_, refl}
 use mathlib.Core.Bool.{Bool, true, false, cond}
 use mathlib.Core.Logic.{_⊎_, inl, inr}
-use Prim.Native.Nat.{ℕ, _+_, _-_, _*_, _/_, _%_, _^_, _≤_, _<_}
+use Prim.Native.Nat.{ℕ, _+_, _-_, _*_, _/_, _^_, _≤_, _<_}
 use native.Mathlib.Nat.{mul-le-mul-left, le-of-mul-le-mul-left}
 use native.Mathlib.Omega.{arith}
 use lib.Dec.{ltb, lit≤, lit<}
 use borrow.Author.Tests.{ltb-true, ltb-false}
-use Rattle.cosine.specs.Cos.{one, turnsOf, turn, multiple, gap, fold}
+use Rattle.cosine.specs.Cos.{one, turnsOf, turn, multiple, gap, fold, halfTurn}
 
 -- ---- k is small, and its multiple is less than three quarters of 2P from |x|
 pub turns-small : (w : ℕ) → w ≤ 2 ^ 20 → turnsOf w ≤ 2 ^ 18
@@ -45,8 +45,8 @@ pub record Folded (Q d r : ℕ) : Type 0 where
 
 pub folded : (d : ℕ) → d ≤ turn → Folded turn d (fold d)
 unfolding fold
-folded d h = go (ltb 1811004864519280710 d) refl
+folded d h = go (ltb halfTurn d) refl
   where
-    go : (t : Bool) → ltb 1811004864519280710 d ≡ t → Folded turn d (cond t (turn - d) d)
-    go true e = let l = ltb-true 1811004864519280710 d e in record { is = inr (omega arith); half = omega arith }
-    go false e = let l = ltb-false 1811004864519280710 d e in record { is = inl refl; half = omega arith }
+    go : (t : Bool) → ltb halfTurn d ≡ t → Folded turn d (cond t (turn - d) d)
+    go true e = let l = ltb-true halfTurn d e in record { is = inr (omega arith); half = omega arith }
+    go false e = let l = ltb-false halfTurn d e in record { is = inl refl; half = omega arith }

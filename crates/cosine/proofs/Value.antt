@@ -1,12 +1,12 @@
 -- The definition's value, and how far the code's sum is from it: 174 units. Assumes nothing.
 use mathlib.Core.Path.{_≡_, refl, sym, ap, _∙_, subst}
 use mathlib.Core.Bool.{Bool, true, false, _&&_}
-use Prim.Native.Nat.{ℕ, zero, suc, _+_, _-_, _*_, _/_, _^_, _≤_, _<_}
-use native.Mathlib.Nat.{le-of-lt, mul-pos, zero-mul, pow-succ', one-mul, div-mul-le-self, lt-div-mul-add, le-of-mul-le-mul-left}
+use Prim.Native.Nat.{ℕ, zero, suc, _+_, _*_, _/_, _^_, _≤_, _<_}
+use native.Mathlib.Nat.{le-of-lt, mul-pos, zero-mul, pow-succ', one-mul, div-mul-le-self, lt-div-mul-add}
 use native.Mathlib.Omega.{arith}
 use lib.Dec.{lit≤, lit<}
 use lib.Ieee.{Float}
-use lib.Ieee.Positive.{num, den, den-pos}
+use lib.Ieee.Positive.{num, den}
 use Rattle.elementary.specs.Fraction.{Whole, Fraction, signed, size, negative, scaled, _×ʷ_, _+ʷ_, _−ʷ_, _×ᶠ_, whole}
 use Rattle.elementary.specs.Series.{series, product, sumUnder, sumOver, evenFactorial, factorial, odd}
 use Rattle.elementary.specs.Band.{signOf}
@@ -14,10 +14,10 @@ use Rattle.elementary.specs.Exact.{ten40, P40, cosTurns, cosRest, cosValue}
 use Rattle.elementary.proofs.Chain.{under, over}
 use Rattle.elementary.proofs.Sum.{under-is, sum-last}
 use Rattle.elementary.proofs.Sizes.{Same, size-same, size-signed, is-negative, not-negative, minus-square}
-use Rattle.cosine.specs.Cos.{one, unitsOf, gap, restOf, alternating, fallOf}
-use Rattle.cosine.proofs.Steps.{Angle, Square, square-of, Near, last-step}
+use Rattle.cosine.specs.Cos.{one, unitsOf, gap, restOf, alternating, fallOf, steps}
+use Rattle.cosine.proofs.Steps.{Square, square-of, Near, Budget, last-step}
 use Rattle.cosine.proofs.Inner.{g, shrinks, inner}
-use Rattle.cosine.proofs.Reduced.{D, G, A, ρ, angle}
+use Rattle.cosine.proofs.Reduced.{D, D⁺, ρ, angle}
 
 -- ---- the definition's parts
 rest-size : (x : Float) → size ((cosRest x) .over) ≡ gap (num x * ten40) (cosTurns x * (2 * (den x * P40)))
@@ -73,22 +73,22 @@ g-second : g 1 ≡ 2
 unfolding evenFactorial factorial
 g-second = refl
 
-pub fall-is : (r : ℕ) → fallOf r ≡ r * r / one * alternating (r * r / one) 1 30 / (one * 2)
+pub fall-is : (r : ℕ) → fallOf r ≡ r * r / one * alternating (r * r / one) 1 steps / (one * 2)
 unfolding fallOf
 fall-is r = refl
 
-ten40-above : 0 < ten40
-unfolding ten40
-ten40-above = lit< tt
+-- the square within 24 units and the inner part within 32
+budget : Budget 24 32 one
+budget = record { cross = lit≤ tt; room = lit≤ tt }
 
--- how far 1 less q units is from a value
-pub record Fall (q : ℕ) (v : Fraction) : Type 0 where
-  pub hi : v .over .plus * one + q * v .under ≤ v .under * one + v .over .minus * one + 174 * v .under
-  pub lo : v .under * one + v .over .minus * one ≤ v .over .plus * one + q * v .under + 174 * v .under
+-- 1 less q units is within t units of a value
+pub record Fall (t q : ℕ) (v : Fraction) : Type 0 where
+  pub hi : v .over .plus * one + q * v .under ≤ v .under * one + v .over .minus * one + t * v .under
+  pub lo : v .under * one + v .over .minus * one ≤ v .over .plus * one + q * v .under + t * v .under
   pub above : 0 < v .under
 
 -- the code's sum, where its square is near the exact one
-module _ (A Ω ω n : ℕ) (Ω⁺ : 1 ≤ Ω) (a : Square one A Ω ω) where
+module _ (s e t A Ω ω n : ℕ) (Ω⁺ : 1 ≤ Ω) (b : Budget s e one) (a : Square s one A Ω ω) (room : 10 * e + s + 3 ≤ 2 * t) where
   abbrev o : ℕ
   o = over g true ω Ω 1 n
 
@@ -98,42 +98,40 @@ module _ (A Ω ω n : ℕ) (Ω⁺ : 1 ≤ Ω) (a : Square one A Ω ω) where
   abbrev q : ℕ
   q = A * alternating A 1 n / (one * 2)
 
-  inner-near : Near one (alternating A 1 n) (2 * o) u
-  inner-near = subst (λ (z : ℕ). Near one (alternating A 1 n) (z * o) u) g-second (inner A Ω ω Ω⁺ a 1 n (omega arith))
+  inner-near : Near e one (alternating A 1 n) (2 * o) u
+  inner-near = subst (λ (z : ℕ). Near e one (alternating A 1 n) (z * o) u) g-second (inner s e A Ω ω Ω⁺ b a 1 n (omega arith))
 
-  product-near : (q * (u * (2 * Ω)) ≤ ω * (2 * o) * one + 174 * (u * (2 * Ω))) × (ω * (2 * o) * one ≤ q * (u * (2 * Ω)) + 174 * (u * (2 * Ω)))
+  product-near : (q * (u * (2 * Ω)) ≤ ω * (2 * o) * one + t * (u * (2 * Ω))) × (ω * (2 * o) * one ≤ q * (u * (2 * Ω)) + t * (u * (2 * Ω)))
   product-near =
-      last-step one A Ω ω (alternating A 1 n) (2 * o) u q (lit≤ tt) Ω⁺ a inner-near (div-mul-le-self (A * alternating A 1 n) (one * 2)) (le-of-lt (lt-div-mul-add {a = A * alternating A 1 n} {b = one * 2} (lit< tt)))
+      last-step s e t one A Ω ω (alternating A 1 n) (2 * o) u q (lit≤ tt) Ω⁺ b a inner-near room (div-mul-le-self (A * alternating A 1 n) (one * 2)) (le-of-lt (lt-div-mul-add {a = A * alternating A 1 n} {b = one * 2} (lit< tt)))
 
   under-first : sumUnder g Ω (suc n) ≡ Ω * u
   unfolding under
   under-first = sym (under-is g Ω (suc n)) ∙ ap (λ (z : ℕ). z * (Ω * u)) g-first ∙ one-mul (Ω * u)
 
-  pub sum-near : Fall q (record { over = sumOver g true ω Ω (suc n); under = sumUnder g Ω (suc n) })
+  pub sum-near : Fall t q (record { over = sumOver g true ω Ω (suc n); under = sumUnder g Ω (suc n) })
   sum-near =
-      subst (λ (e : ℕ). Fall q (record { over = sumOver g true ω Ω (suc n); under = e })) (sym under-first)
+      subst (λ (e : ℕ). Fall t q (record { over = sumOver g true ω Ω (suc n); under = e })) (sym under-first)
       (go (sumOver g true ω Ω (suc n)) q u o (subst (λ (f : ℕ). (sumOver g true ω Ω (suc n)) .plus + f * (ω * o) ≡ Ω * u + (sumOver g true ω Ω (suc n)) .minus) g-first (sum-last g ω Ω n (shrinks ω Ω (a .most)))) (product-near .0) (product-near .1)
       (mul-pos Ω⁺ (inner-near .pos)))
     where
-      go : (v : Whole) (q u o : ℕ) → v .plus + 1 * (ω * o) ≡ Ω * u + v .minus → q * (u * (2 * Ω)) ≤ ω * (2 * o) * one + 174 * (u * (2 * Ω)) → ω * (2 * o) * one ≤ q * (u * (2 * Ω)) + 174 * (u * (2 * Ω))
-          → 0 < Ω * u → Fall q (record { over = v; under = Ω * u })
+      go : (v : Whole) (q u o : ℕ) → v .plus + 1 * (ω * o) ≡ Ω * u + v .minus → q * (u * (2 * Ω)) ≤ ω * (2 * o) * one + t * (u * (2 * Ω)) → ω * (2 * o) * one ≤ q * (u * (2 * Ω)) + t * (u * (2 * Ω))
+          → 0 < Ω * u → Fall t q (record { over = v; under = Ω * u })
       go v q u o k h l p = record { hi = omega arith; lo = omega arith; above = p }
 
+-- and so it is for a float up to 2 ^ 20 in size
 module _ (x : Float) (within : num x ≤ 2 ^ 20 * den x) where
   abbrev r : ℕ
   r = restOf (unitsOf x)
 
-  D⁺ : 0 < D x within
-  D⁺ = mul-pos (den-pos x) ten40-above
-
-  square : Square one (r * r / one) (D x within * D x within) (ρ x within * ρ x within)
+  square : Square 24 one (r * r / one) (D x within * D x within) (ρ x within * ρ x within)
   square = square-of one r (D x within) (ρ x within) (r * r / one) (lit≤ tt) (angle x within) (div-mul-le-self (r * r) one) (le-of-lt (lt-div-mul-add {a = r * r} {b = one} (lit< tt)))
 
   value-is : cosValue x ≡ record { over = sumOver g true (ρ x within * ρ x within) (D x within * D x within) 31; under = sumUnder g (D x within * D x within) 31 }
   value-is = value-opened x ∙ series-is (cosRest x) (ρ x within) (D x within) (rest-size x) (rest-under x)
 
-  pub fall : Fall (fallOf r) (cosValue x)
+  pub fall : Fall 174 (fallOf r) (cosValue x)
   fall =
-      subst (λ (v : Fraction). Fall (fallOf r) v) (sym value-is)
-      (subst (λ (q : ℕ). Fall q (record { over = sumOver g true (ρ x within * ρ x within) (D x within * D x within) 31; under = sumUnder g (D x within * D x within) 31 })) (sym (fall-is r))
-      (sum-near (r * r / one) (D x within * D x within) (ρ x within * ρ x within) 30 (mul-pos D⁺ D⁺) square))
+      subst (λ (v : Fraction). Fall 174 (fallOf r) v) (sym value-is)
+      (subst (λ (q : ℕ). Fall 174 q (record { over = sumOver g true (ρ x within * ρ x within) (D x within * D x within) 31; under = sumUnder g (D x within * D x within) 31 })) (sym (fall-is r))
+      (sum-near 24 32 174 (r * r / one) (D x within * D x within) (ρ x within * ρ x within) steps (mul-pos (D⁺ x within) (D⁺ x within)) budget square (lit≤ tt)))

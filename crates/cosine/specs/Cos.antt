@@ -20,10 +20,11 @@ unitsOf x = num x * 2 ^ 59 / den x
 unfoldable pub turnsOf : ℕ → ℕ
 turnsOf w = (w * 683565275 + 2 ^ 31) / 2 ^ 32
 
--- 2P is this many units, and 13522270992397 / 2 ^ 46 of one; k times that
+-- 2P is this many units, and 13522270992397 / 2 ^ 46 of one
 abbrev pub turn : ℕ
 turn = 3622009729038561421
 
+-- k * 2P
 unfoldable pub multiple : ℕ → ℕ
 multiple k = k * turn + k * 13522270992397 / 2 ^ 46
 
@@ -31,9 +32,12 @@ multiple k = k * turn + k * 13522270992397 / 2 ^ 46
 abbrev pub gap : ℕ → ℕ → ℕ
 gap a b = (a - b) + (b - a)
 
+abbrev pub halfTurn : ℕ
+halfTurn = 1811004864519280710
+
 -- what is further than half of 2P from one multiple of 2P is nearer to the next
 unfoldable pub fold : ℕ → ℕ
-fold d = cond (ltb 1811004864519280710 d) (turn - d) d
+fold d = cond (ltb halfTurn d) (turn - d) d
 
 -- how far |x| is from the nearest multiple of 2P
 unfoldable pub restOf : ℕ → ℕ
@@ -49,10 +53,14 @@ unfoldable pub alternating : (a i n : ℕ) → ℕ
 alternating a i zero = one
 alternating a i (suc n) = one - a * alternating a (suc i) n / (one * pair i)
 
--- 1 less the cosine of r, a / 2 * (1 - a / (3 * 4) * (..)) for a = r * r, to the divisor 61 * 62
+-- as many steps as lead from the divisor 3 * 4 to 61 * 62
+abbrev pub steps : ℕ
+steps = 30
+
+-- 1 less the cosine of r: a / 2 * (1 - a / (3 * 4) * (..)) for a = r * r
 unfoldable pub fallOf : ℕ → ℕ
 unfolding alternating
-fallOf r = let a = r * r / one in a * alternating a 1 30 / (one * 2)
+fallOf r = let a = r * r / one in a * alternating a 1 steps / (one * 2)
 
 -- n units, to the nearest multiple of 2 ^ -51, which a float holds exactly
 unfoldable pub floatOf : ℕ → Float
@@ -69,10 +77,12 @@ unfoldable pub cosInsideOf : Float → Float
 unfolding unitsOf restOf fallOf oneLess
 cosInsideOf x = oneLess (fallOf (restOf (unitsOf x)))
 
+-- a number where the test is true, and else that there is none
 abbrev pub answer : Bool → Float → Answer
 answer true y = Inside y
 answer false y = Outside
 
+-- the cosine of x
 unfoldable pub cosOf : Float → Answer
 unfolding cosInsideOf
 cosOf x = answer (cosInside x) (cosInsideOf x)

@@ -3,7 +3,7 @@ use mathlib.Core.Path.{_≡_, refl}
 use mathlib.Core.Bool.{true, false}
 use Prim.Native.Nat.{ℕ}
 use lib.IntN.{pos, negsuc}
-use lib.Ieee.{Float, nan, inf, fin, binary64, ofBits, round, neg, le}
+use lib.Ieee.{Float, fin, binary64, ofBits, round, neg, le}
 use Rattle.elementary.specs.declared.answer.Answer.the-variants.{Outside, Inside}
 use Rattle.cosine.specs.Cos.{cosOf}
 

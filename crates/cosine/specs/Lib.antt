@@ -1,2 +1,3 @@
+-- The definitions that the contract of the cosine cites.
 pub mod Cos
 pub mod Examples

@@ -1,7 +1,7 @@
 // The sum of the cosine's series, to the power 62.
 ghost use mathlib.Core.Path.{_≡_};
 ghost use Prim.Native.Nat.{_+_, _*_, _/_, _^_, _≤_, _<_};
-ghost use Rattle.cosine.specs.Cos.{one, turn, alternating, fallOf, floatOf, oneLess};
+ghost use Rattle.cosine.specs.Cos.{one, turn, alternating, steps, fallOf, floatOf, oneLess};
 use crate::product::high_product;
 
 // a * p in units, rounded down.
@@ -16,7 +16,7 @@ fn times(a: u64, p: u64) -> u64
 // a is within 24 units of the exact square and at most 10; 24 units and those of the inner part, 10 * 32, over 12, and one: within 32 units again at each step.
 fn inner(a: u64) -> u64
     requires { ⌜ a ≤ 10 * one ⌝ }
-    ensures { λ p. ⌜ p ≡ alternating a 1 30 ⌝ }
+    ensures { λ p. ⌜ p ≡ alternating a 1 steps ⌝ }
 {
     let mut p: u64 = 576460752303423488;
     let mut i: u64 = 31;

@@ -2,7 +2,7 @@
 use mathlib.Core.Path.{_≡_, refl, ap, _∙_, subst}
 use mathlib.Core.Bool.{Bool, true, false, not}
 use Prim.Native.Nat.{ℕ, _+_, _*_, _^_, _≤_, _<_}
-use native.Mathlib.Nat.{mul-le-mul-left, mul-le-mul-right, mul-lt-mul-of-pos-right, le-of-mul-le-mul-left, one-le-pow}
+use native.Mathlib.Nat.{mul-le-mul-left, mul-le-mul-right, le-of-mul-le-mul-left, one-le-pow}
 use native.Mathlib.Decide.{decLe}
 use native.Mathlib.Omega.{arith}
 use lib.Dec.{T, leb, ltb→lt, nltb→le, leb→le, lit<}
@@ -25,9 +25,6 @@ same-scaled v w n h = omega (arith, ap (λ (z : ℕ). z * n) h)
 
 pub same-plus : (v v' w w' : Whole) → Same v v' → Same w w' → Same (v +ʷ w) (v' +ʷ w')
 same-plus v v' w w' h k = omega arith
-
-pub same-minus : (v v' w w' : Whole) → Same v v' → Same w w' → Same (v −ʷ w) (v' −ʷ w')
-same-minus v v' w w' h k = omega arith
 
 pub same-times : (v v' w w' : Whole) → Same v v' → Same w w' → Same (v ×ʷ w) (v' ×ʷ w')
 same-times v v' w w' h k =
@@ -56,30 +53,6 @@ not-negative w n h = by-sign w (λ b. b ≡ false) (λ k. absurd (omega arith)) 
 
 pub is-negative : (w : Whole) (n : ℕ) → 0 < n → Same w (signed true n) → negative w ≡ true
 is-negative w n n⁺ h = by-sign w (λ b. b ≡ true) (λ k. refl) (λ k. absurd (omega arith))
-
-pub size-scaled : (w : Whole) (n : ℕ) → size (scaled w n) ≡ size w * n
-size-scaled w n = size-same (scaled w n) (scaled (signed (negative w) (size w)) n) (same-scaled w (signed (negative w) (size w)) n (own w)) ∙ go (negative w) (size w)
-  where
-    go : (s : Bool) (a : ℕ) → size (scaled (signed s a) n) ≡ a * n
-    go false a = omega arith
-    go true a = omega arith
-
-pub negative-scaled : (w : Whole) (n : ℕ) → 0 < n → negative (scaled w n) ≡ negative w
-negative-scaled w n n⁺ =
-    by-sign w (λ b. negative (scaled w n) ≡ b)
-    (λ h. by-sign (scaled w n) (λ b. b ≡ true) (λ k. refl) (λ k. absurd (omega (arith, mul-lt-mul-of-pos-right h n⁺))))
-    (λ h. by-sign (scaled w n) (λ b. b ≡ false) (λ k. absurd (omega (arith, mul-le-mul-right n h))) (λ k. refl))
-
-pub size-times : (v w : Whole) → size (v ×ʷ w) ≡ size v * size w
-size-times v w =
-    size-same (v ×ʷ w) (signed (negative v) (size v) ×ʷ signed (negative w) (size w)) (same-times v (signed (negative v) (size v)) w (signed (negative w) (size w)) (own v) (own w))
-    ∙ go (negative v) (negative w) (size v) (size w)
-  where
-    go : (s t : Bool) (a b : ℕ) → size (signed s a ×ʷ signed t b) ≡ a * b
-    go false false a b = omega arith
-    go false true a b = omega arith
-    go true false a b = omega arith
-    go true true a b = omega arith
 
 pub above-times : (s : Bool) (a b : ℕ) → Same (signed false a ×ʷ signed s b) (signed s (a * b))
 above-times false a b = omega arith

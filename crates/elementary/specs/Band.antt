@@ -5,7 +5,7 @@ use lib.Dec.{T}
 use lib.Ieee.{Float, nan, inf, fin}
 use lib.Ieee.Positive.{num, den}
 use Rattle.number.specs.Range.{finite}
-use Rattle.elementary.specs.Fraction.{Whole, Fraction, signed, _−ʷ_, scaled, size}
+use Rattle.elementary.specs.Fraction.{Fraction, signed, _−ʷ_, scaled, size}
 use Rattle.elementary.specs.declared.answer.Answer.{Answer}
 use Rattle.elementary.specs.declared.answer.Answer.the-variants.{Outside, Inside}
 

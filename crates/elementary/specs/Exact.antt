@@ -3,7 +3,7 @@ use mathlib.Core.Path.{_≡_}
 use mathlib.Core.Bool.{Bool, true, false, not, _&&_}
 use Prim.Native.Nat.{ℕ, _+_, _-_, _*_, _/_, _^_}
 use lib.Dec.{T, leb}
-use lib.Ieee.{Float, nan, inf, fin, ofBits, binary64, lt, le, eq, isNan, size as digits}
+use lib.Ieee.{Float, nan, inf, ofBits, binary64, lt, le, eq, isNan, size as digits}
 use lib.Ieee.Positive.{num, den, positive}
 use Rattle.number.specs.F64.{0f, 1f, −_}
 use Rattle.number.specs.Range.{finite, isWithin}

@@ -1,17 +1,17 @@
 -- The definition's answer is near the exact value, for every float: outside the range, at zero, and elsewhere. Assumes nothing.
 use mathlib.Core.Path.{_≡_, refl, sym, ap, _∙_, subst}
 use mathlib.Core.Bool.{Bool, true, false, not, cond}
-use Prim.Native.Nat.{ℕ, zero, suc, _+_, _-_, _*_, _/_, _^_, _≤_, _<_}
-use native.Mathlib.Nat.{le-trans, le-of-eq, mul-one, mul-le-mul-right, zero-mul, zero-div, le-of-mul-le-mul-right, mul-pos}
+use Prim.Native.Nat.{ℕ, zero, suc, _-_, _*_, _≤_, _<_}
+use native.Mathlib.Nat.{le-trans, mul-le-mul-right, le-of-mul-le-mul-right, mul-pos}
 use native.Mathlib.Omega.{arith}
 use lib.IntN.{ℤ}
-use lib.Dec.{T, ltb, eqb, eqb→eq, nltb→le, lit≤}
+use lib.Dec.{T, eqb, eqb→eq, nltb→le, lit≤}
 use lib.Ieee.{Float, nan, inf, fin, binary64, fits, up, down, lt, eq, isNan, ofBits, neg}
-use lib.Ieee.Fits.{and-l, neg-fits, down-pos}
+use lib.Ieee.Fits.{and-l, neg-fits}
 use lib.Ieee.Positive.{positive}
 use Rattle.number.specs.F64.{0f, 1f, −_}
 use Rattle.elementary.specs.Band.{valueOf, WithinOfIt}
-use Rattle.elementary.specs.Exact.{ten40, L40, nearest, expTurns, expValue, 709f, 708f, ExpAnswer, If}
+use Rattle.elementary.specs.Exact.{expTurns, expValue, 709f, 708f, ExpAnswer, If}
 use Rattle.elementary.proofs.Rounding.{Close}
 use Rattle.elementary.specs.Series.{factorial}
 use Rattle.elementary.proofs.Chain.{under, over}
@@ -128,22 +128,22 @@ module _ (t : Bool) (m : ℕ) (e : ℤ) (f : T (fits binary64 (fin t m e))) (hig
           go : (a b : ℕ) → a ≡ 0 → 0 < b → 4 * a < b
           go a b h p = omega arith
 
-  pub inside-answer : (T (eq x 0f) → y ≡ 1f) × T (positive y) × WithinOfIt 48 (valueOf y) (expValue x)
+  inside-answer : (T (eq x 0f) → y ≡ 1f) × T (positive y) × WithinOfIt 48 (valueOf y) (expValue x)
   inside-answer = (one, close .above, within)
 
--- ---- every float
+-- ---- every float: h says that it is above 709, l that it is below -708
+abbrev Says : (h l : Bool) (x y : Float) → Type 0
+Says h l x y = If h (y ≡ inf false) (If l (y ≡ 0f) ((T (eq x 0f) → y ≡ 1f) × T (positive y) × WithinOfIt 48 (valueOf y) (expValue x)))
+
+by-test : (t : Bool) (m : ℕ) (e : ℤ) → T (fits binary64 (fin t m e)) → (h l : Bool) → lt 709f (fin t m e) ≡ h → lt (fin t m e) (− 708f) ≡ l
+    → Says h l (fin t m e) (cond h (inf false) (cond l 0f (insideOf t (units (fin t m e)) (expTurns (fin t m e)))))
+by-test t m e f true l high low = refl
+by-test t m e f false true high low = refl
+by-test t m e f false false high low = inside-answer t m e f high low
+
 pub exp-answer : (x : Float) → T (fits binary64 x) → ExpAnswer x (expOf x)
 unfolding ExpAnswer expOf isNan lt ofBits neg
 exp-answer nan f = refl
 exp-answer (inf false) f = refl
 exp-answer (inf true) f = refl
-exp-answer (fin t m e) f = go (lt 709f (fin t m e)) (lt (fin t m e) (− 708f)) refl refl
-  where
-    x : Float
-    x = fin t m e
-
-    go : (h l : Bool) → lt 709f x ≡ h → lt x (− 708f) ≡ l → (If h (cond h (inf false) (cond l 0f (insideOf t (units x) (expTurns x))) ≡ inf false) (If l (cond h (inf false) (cond l 0f (insideOf t (units x) (expTurns x))) ≡ 0f)
-        ((T (eq x 0f) → cond h (inf false) (cond l 0f (insideOf t (units x) (expTurns x))) ≡ 1f) × T (positive (cond h (inf false) (cond l 0f (insideOf t (units x) (expTurns x))))) × WithinOfIt 48 (valueOf (cond h (inf false) (cond l 0f (insideOf t (units x) (expTurns x))))) (expValue x))))
-    go true l h g = refl
-    go false true h g = refl
-    go false false h g = inside-answer t m e f h g
+exp-answer (fin t m e) f = by-test t m e f (lt 709f (fin t m e)) (lt (fin t m e) (− 708f)) refl refl

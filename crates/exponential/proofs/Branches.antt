@@ -2,7 +2,7 @@
 use mathlib.Core.Path.{_≡_, refl, sym, ap, _∙_, subst}
 use mathlib.Core.Bool.{Bool, true, false, not, cond}
 use Prim.Native.Nat.{ℕ, _+_, _-_, _*_, _/_, _%_, _^_, _≤_, _<_}
-use native.Mathlib.Nat.{le-trans, le-of-eq, not-le-of-lt, le-of-mul-le-mul-right, mul-le-mul-right, lt-of-not-le, zero-add, add-assoc}
+use native.Mathlib.Nat.{le-trans, le-of-eq, not-le-of-lt, le-of-mul-le-mul-right, mul-le-mul-right, lt-of-not-le, zero-add}
 use native.Mathlib.Decide.{decLe}
 use native.Mathlib.Omega.{arith}
 use lib.IntN.{ℤ}
@@ -14,7 +14,7 @@ use Rattle.number.specs.F64.{0f, −_}
 use Rattle.number.proofs.Floats.{differs-is-nan, is-the-nan}
 use Rattle.root.specs.Parts.{patternUnits}
 use Rattle.root.proofs.Floats.{bits-below, pattern-order}
-use Rattle.elementary.specs.Exact.{709f, 708f, ExpAnswer, expTurns}
+use Rattle.elementary.specs.Exact.{709f, 708f, ExpAnswer}
 use Rattle.exponential.specs.Exp.{units, multiples, insideOf, expOf}
 use Rattle.exponential.proofs.Guess.{Nearest, limit}
 use Rattle.exponential.proofs.Scaled.{U, pattern-is, pattern-cross}

@@ -1,5 +1,5 @@
 -- What the crates above may take from exp: from -708 to 709 the answer is a number above zero, and in any case a float that binary64 holds. Assumes nothing.
-use mathlib.Core.Path.{_≡_, refl, sym, ap, _∙_, subst}
+use mathlib.Core.Path.{_≡_, refl, sym}
 use mathlib.Core.Bool.{Bool, true, false, _&&_, _||_, cond}
 use mathlib.Core.Logic.{_⊎_, inl, inr}
 use Prim.Native.Nat.{ℕ, _+_, _*_, _^_, _≤_}
@@ -7,7 +7,7 @@ use native.Mathlib.Nat.{le-of-lt, le-of-eq}
 use native.Mathlib.Omega.{arith}
 use lib.Dec.{T, ltb, eqb, ltb→lt, eqb→eq}
 use borrow.Author.Tests.{le-ltb}
-use lib.Ieee.{Float, nan, inf, fin, binary64, fits, up, down, lt, le, eq, isNan, below, level, ofBits, neg, mul}
+use lib.Ieee.{Float, nan, inf, fin, binary64, fits, up, down, lt, le, isNan, below, level, mul}
 use lib.Ieee.Bits.{ofBits-fits}
 use lib.Ieee.Fits.{and-l, and-r, cond-fits, nan-fits, inf-fits, mul-fits}
 use lib.Ieee.Positive.{positive}
@@ -15,9 +15,8 @@ use Rattle.number.specs.F64.{0f, −_}
 use Rattle.number.specs.Range.{finite, isWithin}
 use Rattle.elementary.specs.Band.{signOf}
 use Rattle.elementary.specs.Exact.{709f, 708f, expTurns, ExpAnswer}
-use Rattle.exponential.specs.Exp.{units, multiples, powerOfTwo, restOf, insideOf, expOf}
+use Rattle.exponential.specs.Exp.{units, multiples, powerOfTwo, restOf, insideOf, expOf, sumAt}
 use Rattle.exponential.proofs.Powers.{field}
-use Rattle.exponential.proofs.Cases.{sumAt}
 
 -- ---- binary64 holds the answer
 inside-fits : (s : Bool) (u k : ℕ) → T (fits binary64 (insideOf s u k))

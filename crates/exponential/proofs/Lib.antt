@@ -11,6 +11,6 @@ mod Value
 mod Powers
 mod Rounded
 mod Near
-mod Answers
+pub mod Answers
 mod Branches
 pub mod Laws

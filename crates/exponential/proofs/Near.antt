@@ -1,32 +1,30 @@
 -- The answer inside the range is within ten factors of 1 + 2 ^ -53 of the exact value: five for the polynomial in floats, five for its argument and the terms left out. Assumes nothing.
 use mathlib.Core.Path.{_≡_, refl, sym, ap, _∙_, subst}
-use mathlib.Core.Bool.{Bool, true, false, not, cond}
+use mathlib.Core.Bool.{Bool, true, false, not}
 use mathlib.Core.Logic.{_⊎_, inl, inr}
 use Prim.Native.Nat.{ℕ, zero, suc, _+_, _-_, _*_, _^_, _≤_, _<_}
-use native.Mathlib.Nat.{le-trans, le-of-eq, le-of-lt, le-antisymm, lt-of-not-le, mul-pos, mul-le-mul, mul-le-mul-left, mul-le-mul-right, sub-add-cancel, eq-zero-or-pos}
+use native.Mathlib.Nat.{le-trans, le-of-eq, le-of-lt, le-antisymm, lt-of-not-le, mul-pos, mul-le-mul-left, sub-add-cancel}
 use native.Mathlib.Decide.{decLe}
 use native.Mathlib.Omega.{arith}
 use lib.Dec.{T, ltb, lit≤, lit<}
 use lib.Pow.{pow-add, pow-pos, pow-mono}
 use borrow.Author.Tests.{lt-ltb, le-ltb}
 use lib.Ieee.{Float, binary64, fits, unlike}
-use lib.Ieee.Exact.{HasValue}
 use lib.Ieee.Fits.{add-fits}
-use lib.Ieee.Positive.{num, den}
 use Rattle.number.specs.F64.{_⊗_, _‼_}
 use Rattle.elementary.specs.Exact.{ten40, L40}
 use Rattle.elementary.specs.Series.{factorial}
 use Rattle.elementary.specs.Horner.{horner}
 use Rattle.elementary.proofs.Ratio.{ratio-mul, ratio-refl}
-use Rattle.elementary.proofs.Rounding.{Ordinary, Close, close-near, close-to, close-of-value, close-more, ordinary-near}
+use Rattle.elementary.proofs.Rounding.{Close, close-near, close-to, close-of-value, close-more, ordinary-near}
 use Rattle.elementary.proofs.Scaling.{scale-close}
 use Rattle.elementary.proofs.Chain.{under, over, under-pos, plus-most, minus-most}
 use Rattle.elementary.proofs.FloatChain.{turned}
-use Rattle.exponential.specs.Exp.{multiples, powerOfTwo, coefficients, restOf, insideOf}
+use Rattle.exponential.specs.Exp.{multiples, powerOfTwo, coefficients, insideOf, sumAt, last}
 use Rattle.exponential.proofs.Guess.{Nearest}
 use Rattle.exponential.proofs.Scaled.{U, Units}
-use Rattle.exponential.proofs.Cases.{sumAt, without-rest, with-rest}
-use Rattle.exponential.proofs.Reduced.{gap, Near, Turned, turned as turned-by, near, scale-pos}
+use Rattle.exponential.proofs.Cases.{without-rest, with-rest}
+use Rattle.exponential.proofs.Reduced.{gap, Near, turned as turned-by, near, scale-pos}
 use Rattle.exponential.proofs.Rests.{exact-small, code-small}
 use Rattle.exponential.proofs.Lipschitz.{factorial-pos, shrinks}
 use Rattle.exponential.proofs.Sums.{sum-least, sum-pos, sums}
@@ -49,29 +47,29 @@ sum-at-zero true Ω (suc n) = omega arith
 
 sum-fits : (r : Float) → T (fits binary64 (sumAt r))
 unfolding horner
-sum-fits r = add-fits binary64 (coefficients ‼ 0) (r ⊗ horner (λ (j : ℕ). coefficients ‼ j) r 1 11)
+sum-fits r = add-fits binary64 (coefficients ‼ 0) (r ⊗ horner (λ (j : ℕ). coefficients ‼ j) r 1 (last - 1))
 
 -- ---- times 2 ^ k, which is exact
 module _ (s t : Bool) (k R : ℕ) (least : 2 ≤ field t k) (most : field t k ≤ 2046) (small : 20 * R ≤ 7 * U) where
   abbrev o : ℕ
-  o = over factorial s R U 0 12
+  o = over factorial s R U 0 last
 
   abbrev w : ℕ
-  w = under factorial U 0 12
+  w = under factorial U 0 last
 
   abbrev q : ℕ
   q = 2 ^ field t k
 
   w⁺ : 0 < w
-  w⁺ = under-pos factorial U factorial-pos (lit< tt) 0 12
+  w⁺ = under-pos factorial U factorial-pos (lit< tt) 0 last
 
   scaled : 1 ≤ R → Close 5 (sumAt (turned s (sized R)) ⊗ powerOfTwo t k) (o * q) (w * 2 ^ 1023)
   scaled R⁺ =
       let c = sum-close s R R⁺ small in
       scale-close (powerOfTwo t k) (field t k) c (sum-fits (turned s (sized R))) (power-value t k (omega arith) most)
-      (ordinary-near {a = o * q} {c = w * 2 ^ 1023} 100 101 (mul-pos (sum-pos s R U 12 small (lit< tt)) (pow-pos (field t k))) (mul-pos w⁺ (pow-pos 1023)) (lit< tt) (lit≤ tt) (ratio-mul (c .ratio) (ratio-refl q (2 ^ 1023)))
-      (not-less o w q (2 ^ 1022) (sum-least s R U 12 small) (pow-mono {i = 2} {j = field t k} least))
-      (not-more o w q (2 ^ 1023) (sum-most s R U 12 small) (le-trans (pow-mono {i = field t k} {j = 1023 + 1023} most) (le-of-eq (pow-add 2 1023 1023)))))
+      (ordinary-near {a = o * q} {c = w * 2 ^ 1023} 100 101 (mul-pos (sum-pos s R U last small (lit< tt)) (pow-pos (field t k))) (mul-pos w⁺ (pow-pos 1023)) (lit< tt) (lit≤ tt) (ratio-mul (c .ratio) (ratio-refl q (2 ^ 1023)))
+      (not-less o w q (2 ^ 1022) (sum-least s R U last small) (pow-mono {i = 2} {j = field t k} least))
+      (not-more o w q (2 ^ 1023) (sum-most s R U last small) (le-trans (pow-mono {i = field t k} {j = 1023 + 1023} most) (le-of-eq (pow-add 2 1023 1023)))))
     where
       not-less : (o w q p : ℕ) → 13 * w ≤ 20 * o → 4 ≤ q → w * (2 * p) * 101 ≤ o * q * p * 100
       not-less o w q p h l = omega (arith, mul-le-mul-left p h, mul-le-mul-left (o * p) l)
@@ -81,7 +79,7 @@ module _ (s t : Bool) (k R : ℕ) (least : 2 ≤ field t k) (most : field t k �
 
   alone : R ≡ 0 → Close 5 (powerOfTwo t k) (o * q) (w * 2 ^ 1023)
   alone e =
-      close-more (lit≤ tt) (close-to (o * q) (w * 2 ^ 1023) (mul-pos w⁺ (pow-pos 1023)) (turn (ap (λ (z : ℕ). over factorial s z U 0 12) e ∙ sum-at-zero s U 12)) (close-of-value (powerOfTwo t k) q (2 ^ 1023) (pow-pos (field t k)) (power-value t k (omega arith) most)))
+      close-more (lit≤ tt) (close-to (o * q) (w * 2 ^ 1023) (mul-pos w⁺ (pow-pos 1023)) (turn (ap (λ (z : ℕ). over factorial s z U 0 last) e ∙ sum-at-zero s U last)) (close-of-value (powerOfTwo t k) q (2 ^ 1023) (pow-pos (field t k)) (power-value t k (omega arith) most)))
     where
       turn : o ≡ w → q * (w * 2 ^ 1023) ≡ o * q * 2 ^ 1023
       turn e = rw e (go w q (2 ^ 1023))
@@ -125,7 +123,7 @@ module _ (t : Bool) (a b X k : ℕ) (u : Units a b X) (n : Nearest X k) (least :
   same-sign (inr h) = ap (λ (z : Bool). unlike z t) (le-ltb X M (le-of-lt h) ∙ sym (le-ltb A K (le-of-lt (rests .more h))))
 
   abbrev Wanted : Float → Type 0
-  Wanted y = Close 5 y (over factorial s (gap X M) U 0 12 * 2 ^ field t k) (under factorial U 0 12 * 2 ^ 1023)
+  Wanted y = Close 5 y (over factorial s (gap X M) U 0 last * 2 ^ field t k) (under factorial U 0 last * 2 ^ 1023)
 
   in-floats : Wanted (insideOf t X k)
   in-floats = go (decLe X M) (decLe M X)

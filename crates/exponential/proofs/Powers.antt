@@ -1,13 +1,13 @@
 -- The power of two that an answer is scaled by, and the rest as a float, which both are exact. Assumes nothing.
 use mathlib.Core.Path.{_≡_, refl, sym, ap, _∙_, subst}
 use mathlib.Core.Bool.{Bool, true, false, cond}
-use Prim.Native.Nat.{ℕ, zero, suc, _+_, _-_, _*_, _/_, _%_, _^_, _≤_, _<_}
-use native.Mathlib.Nat.{le-trans, le-of-eq, mul-assoc, mul-right-comm, mul-le-mul-left, mul-le-mul-right, eq-of-mul-eq-mul-right, mul-pos}
+use Prim.Native.Nat.{ℕ, _+_, _-_, _*_, _/_, _%_, _^_, _≤_, _<_}
+use native.Mathlib.Nat.{mul-le-mul-right, eq-of-mul-eq-mul-right, mul-pos}
 use native.Mathlib.Omega.{arith}
 use lib.IntN.{pos}
-use lib.Dec.{T, ltb, lit≤, lit<}
+use lib.Dec.{ltb, lit≤, lit<}
 use lib.Pow.{pow-add, pow-pos}
-use lib.Ieee.{Float, nan, inf, fin, binary64, ofBits, ofInt, mul, up, down, unlike}
+use lib.Ieee.{Float, nan, inf, fin, binary64, ofBits, ofInt, up, down, unlike}
 use lib.Ieee.Exact.{HasValue}
 use lib.Ieee.Fits.{ofInt-fits}
 use lib.Ieee.Positive.{num, den}

@@ -1,14 +1,13 @@
--- The range reduction against the exact one: the code's k is the nearest, its rest is within a unit of the exact rest, at most 0.35, and has its sign unless it is 0. Assumes nothing.
--- x is a / b in size, X its units of 2 ^ -54 rounded down. L and D are the digits of ln 2 and their scale, A = a * D and K = k * L * b, so that the exact rest is A - K over b * D.
-use mathlib.Core.Path.{_≡_, refl, sym, ap, _∙_, subst}
-use mathlib.Core.Bool.{Bool, true, false, not, cond}
+-- The range reduction against the exact one: the code's k is the nearest, and its rest is within a unit of the exact rest, with its sign unless it is 0.
+-- x is a / b in size, X its units of 2 ^ -54 rounded down. L and D are the digits of ln 2 and their scale, A = a * D and K = k * L * b, so that the exact rest is A - K over b * D. Assumes nothing.
+use mathlib.Core.Path.{_≡_, refl, sym, ap, subst}
 use mathlib.Core.Logic.{_⊎_, inl, inr}
-use Prim.Native.Nat.{ℕ, zero, suc, _+_, _-_, _*_, _/_, _^_, _≤_, _<_}
-use native.Mathlib.Nat.{le-trans, le-of-lt, le-of-eq, lt-of-lt-of-le, lt-irrefl, mul-le-mul-left, mul-le-mul-right, mul-lt-mul-of-pos-right, lt-of-mul-lt-mul-right, le-of-mul-le-mul-right, mul-pos, eq-zero-or-pos}
+use Prim.Native.Nat.{ℕ, suc, _+_, _-_, _*_, _^_, _≤_, _<_}
+use native.Mathlib.Nat.{le-trans, mul-le-mul-left, mul-le-mul-right, mul-lt-mul-of-pos-right, lt-of-mul-lt-mul-right, mul-pos, eq-zero-or-pos}
 use native.Mathlib.Decide.{decLe}
 use native.Mathlib.Numerals.{add-one}
 use native.Mathlib.Omega.{arith}
-use lib.Dec.{T, ltb, lit≤, lit<}
+use lib.Dec.{lit≤, lit<}
 use Rattle.elementary.specs.Exact.{ten40, L40}
 use Rattle.exponential.specs.Exp.{multiples}
 use Rattle.exponential.proofs.Table.{above-floor, floor-le, below-next}

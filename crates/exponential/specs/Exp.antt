@@ -1,6 +1,6 @@
 -- The float that exp answers, step by step as the code works it out, in a form that computes. Definitions only.
 use mathlib.Core.List.{List, [], _∷_}
-use mathlib.Core.Bool.{Bool, true, false, cond}
+use mathlib.Core.Bool.{Bool, false, cond}
 use Prim.Native.Nat.{ℕ, _+_, _-_, _*_, _/_, _^_}
 use lib.IntN.{pos}
 use lib.Dec.{ltb, eqb}
@@ -41,6 +41,13 @@ coefficients =
     ∷ ofBits binary64 0x3e21_eed8_eff8_d898
     ∷ []
 
+-- the sum of r ^ j / j!, j = 0 to `last`
+abbrev pub last : ℕ
+last = 12
+
+abbrev pub sumAt : Float → Float
+sumAt r = horner (λ (j : ℕ). coefficients ‼ j) r 0 last
+
 -- 2 ^ -54
 abbrev pub unit : Float
 unit = ofBits binary64 0x3c90_0000_0000_0000
@@ -49,12 +56,12 @@ unit = ofBits binary64 0x3c90_0000_0000_0000
 unfoldable pub restOf : Bool → (u m : ℕ) → Float
 restOf s u m = ofInt binary64 (pos ((u - m) + (m - u))) ⊗ cond (unlike (ltb u m) s) (− unit) unit
 
--- e to the power of u units, and of -u units where s is true, given k: 2 ^ k times the sum of r ^ j / j!, j = 0 to 12, where r = u - k * ln 2
+-- e to the power of u units, for the k nearest to u / ln 2: 2 ^ k times the sum at r, where r = u - k * ln 2. Where s is true it is e to the power of -u units, and -k and -r are in place of k and r.
 unfoldable pub insideOf : Bool → (u k : ℕ) → Float
 unfolding multiples powerOfTwo coefficients restOf
 insideOf s u k =
     let m = multiples (2 * k) in
-    cond (eqb u m) (powerOfTwo s k) (horner (λ (j : ℕ). coefficients ‼ j) (restOf s u m) 0 12 ⊗ powerOfTwo s k)
+    cond (eqb u m) (powerOfTwo s k) (sumAt (restOf s u m) ⊗ powerOfTwo s k)
 
 -- the NaN of itself, the infinity above 709, 0 below -708
 unfoldable pub expOf : Float → Float

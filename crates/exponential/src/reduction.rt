@@ -1,4 +1,6 @@
 // The argument of exp as a multiple of ln 2 and a rest, in whole numbers of units of 2^-54.
+// From 1/4 up the argument is exact and the multiple is rounded down; below it is rounded down, and
+// there is no multiple. So the rest is within one unit of the exact one.
 ghost use mathlib.Core.Path.{_≡_};
 ghost use Prim.Native.Nat.{_+_, _-_, _*_, _/_, _^_, _≤_, _<_};
 ghost use Rattle.root.specs.Parts.{patternUnits};

@@ -1,7 +1,7 @@
 -- How large the exact terms are: the series' sum is from 24/25 to 25/24, and the logarithm of m at most 5/8 of that of 2. Assumes nothing.
 use mathlib.Core.Path.{_≡_, refl}
 use mathlib.Core.Bool.{false}
-use Prim.Native.Nat.{ℕ, _+_, _*_, _^_, _≤_}
+use Prim.Native.Nat.{ℕ, _+_, _-_, _*_, _^_, _≤_}
 use native.Mathlib.Nat.{le-trans, mul-le-mul, mul-le-mul-left, mul-le-mul-right, mul-pos}
 use native.Mathlib.Omega.{arith}
 use lib.Dec.{lit<, lit≤}
@@ -11,6 +11,7 @@ use Rattle.elementary.proofs.Ratio.{Ratio}
 use Rattle.elementary.proofs.Rounding.{Middle}
 use Rattle.elementary.proofs.Chain.{under, over, under-pos, plus-most, least}
 use Rattle.elementary.proofs.Tail.{tail-ratio}
+use Rattle.logarithm.specs.Ln.{highest}
 use Rattle.logarithm.proofs.Value.{top, bottom, shrinks}
 
 odd-pos : (j : ℕ) → 1 ≤ oddNumber j
@@ -29,10 +30,10 @@ module _ (τ Δ : ℕ) (small : 5 * τ ≤ Δ) (Δ⁺ : 1 ≤ Δ) where
   unfolding oddNumber
   sum-least n = omega (arith, least oddNumber (τ * τ) (Δ * Δ) false 1 25 24 refl 0 (shrinks τ Δ small) n)
 
-  -- the terms from the eleventh on are less than a factor
-  pub tail-close : Ratio 1 (top τ Δ 10) (bottom Δ 10) (top τ Δ 31) (bottom Δ 31)
+  -- the terms that are left out are less than a factor
+  pub tail-close : Ratio 1 (top τ Δ highest) (bottom Δ highest) (top τ Δ 31) (bottom Δ 31)
   unfolding oddNumber under over
-  tail-close = tail-ratio oddNumber false (τ * τ) (Δ * Δ) 1 25 10 20 36028797018963968 odd-pos (lit≤ tt) (omega (arith, mul-le-mul small small)) tt 1 25 24 1 864691128455135207 refl (lit< tt) (shrinks τ Δ small) refl (lit≤ tt) tt
+  tail-close = tail-ratio oddNumber false (τ * τ) (Δ * Δ) 1 25 highest (30 - highest) 36028797018963968 odd-pos (lit≤ tt) (omega (arith, mul-le-mul small small)) tt 1 25 24 1 864691128455135207 refl (lit< tt) (shrinks τ Δ small) refl (lit≤ tt) tt
 
 -- twice the sum is at most 5/8 of k * L
 pub less : (τ Δ : ℕ) → 5 * τ ≤ Δ → 1 ≤ Δ → (K : ℕ) → 1 ≤ K → 8 * (2 * (τ * top τ Δ 31) * ten40) ≤ 5 * (K * L40 * (Δ * bottom Δ 31))

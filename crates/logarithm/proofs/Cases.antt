@@ -14,7 +14,7 @@ use lib.Ieee.Positive.{num, den, positive}
 use borrow.Author.Tests.{eq-eqb, eqb-true, eqb-false}
 use Rattle.number.specs.F64.{0f, 1f}
 use Rattle.root.proofs.Floats.{units-are, same-float}
-use Rattle.logarithm.specs.Ln.{field, part, turns, nearOne, ofPattern}
+use Rattle.logarithm.specs.Ln.{field, part, turns, ofPattern}
 use Rattle.logarithm.proofs.Pattern.{W}
 use Rattle.logarithm.proofs.Difference.{gap}
 
@@ -78,5 +78,5 @@ one-only (fin false n k) f p e =
     same a d e = omega arith
 
 pub of-one : ofPattern (toBits binary64 1f) ≡ 0f
-unfolding ofPattern field part turns ofBits toBits ofInt sub mul neg eq nearOne
+unfolding ofPattern field part turns ofBits toBits ofInt sub mul neg eq
 of-one = refl

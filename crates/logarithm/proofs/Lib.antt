@@ -1,3 +1,4 @@
+-- The laws behind the contracts; Laws has what the crates above may cite.
 mod Pattern
 mod Inside
 mod Reduced

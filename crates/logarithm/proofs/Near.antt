@@ -1,4 +1,4 @@
--- The logarithm of m = μ / 2 ^ 53 in floats: within seven factors of twice τ / Δ times the series' sum, with its sign. Assumes nothing.
+-- The logarithm of m = μ / 2 ^ 53 in floats: within eight factors of twice τ / Δ times the series' sum, with its sign. Assumes nothing.
 use mathlib.Core.Path.{_≡_, refl, sym, ap, _∙_, subst}
 use mathlib.Core.Bool.{Bool, true, false}
 use Prim.Native.Nat.{ℕ, _+_, _*_, _^_, _≤_, _<_}
@@ -15,17 +15,18 @@ use Rattle.elementary.proofs.Weighted.{add-middle}
 use Rattle.elementary.proofs.Chain.{plus-weight}
 use Rattle.elementary.proofs.FloatChain.{Argument, areReciprocals, reciprocals, horner-close, turned}
 use Rattle.elementary.proofs.Signs.{mul-neg-left, mul-neg-right, div-neg-left, neg-neg}
-use Rattle.logarithm.specs.Ln.{coefficient, sumOf, nearOne}
+use Rattle.logarithm.specs.Ln.{coefficient, highest, sumOf, nearOne}
 use Rattle.logarithm.proofs.Pattern.{W}
 use Rattle.logarithm.proofs.Difference.{gap, difference}
 use Rattle.logarithm.proofs.Value.{top, bottom, shrinks}
 use Rattle.logarithm.proofs.Bounds.{middle-of, bottom-pos, tail-close, near-middle}
 
--- ---- the signs: t is that of the difference, so is the answer
+-- ---- the signs: t has that of m - 1, and so has the answer
+-- the size of t
 abbrev pub ratio : Float → ℕ → Float
 ratio m μ = round binary64 false (gap μ W) W ⊘ (m ⊕ 1f)
 
--- for t = ± u
+-- the logarithm by a t that is u
 abbrev pub sized : Float → Float
 sized u = 2f ⊗ u ⊗ sumOf (u ⊗ u)
 
@@ -57,7 +58,8 @@ two-close = close-of-value 2f 2 1 (lit< tt) (refl, refl)
 exact : (δ : ℕ) → δ < W → HasValue (round binary64 false δ W) false δ W
 exact δ h = round-exact binary64 false δ W δ 1021 (lit< tt) h (lt-of-lt-of-le (mul-lt-mul-of-pos-right h (pow-pos 1021)) (lit≤ tt)) (sym (mul-assoc δ (2 ^ 1021) W))
 
-coefficients : T (areReciprocals 24 coefficient oddNumber 0 10)
+-- the coefficients are within a factor of 1 / (2 * j + 1)
+coefficients : T (areReciprocals 24 coefficient oddNumber 0 highest)
 unfolding areReciprocals coefficient oddNumber round
 coefficients = tt
 
@@ -96,8 +98,8 @@ module _ (m : Float) (μ τ Δ : ℕ) (v : HasValue m false μ W) (l : 3 * W ≤
     unfolding sumOf
     sum-close =
         close-near (bottom-pos τ Δ small Δ⁺ 31)
-        (horner-close oddNumber false (τ * τ) (Δ * Δ) coefficient (ratio m μ ⊗ ratio m μ) 5 2 24 1 0 10 (lit< tt) (lit≤ tt) tt argument (reciprocals 24 coefficient oddNumber 0 10 coefficients)
-        (plus-weight oddNumber (τ * τ) (Δ * Δ) 1 25 24 (lit< tt) refl 0 (shrinks τ Δ small)) 0 10 (lit≤ tt) (lit≤ tt) .close)
+        (horner-close oddNumber false (τ * τ) (Δ * Δ) coefficient (ratio m μ ⊗ ratio m μ) 5 2 24 1 0 highest (lit< tt) (lit≤ tt) tt argument (reciprocals 24 coefficient oddNumber 0 highest coefficients)
+        (plus-weight oddNumber (τ * τ) (Δ * Δ) 1 25 24 (lit< tt) refl 0 (shrinks τ Δ small)) 0 highest (lit≤ tt) (lit≤ tt) .close)
         (tail-close τ Δ small Δ⁺)
 
     pub near-close : Close 8 (sized (ratio m μ)) (2 * (τ * top τ Δ 31)) (Δ * bottom Δ 31)

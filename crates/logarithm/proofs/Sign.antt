@@ -36,7 +36,7 @@ above-is (fin true n k) p = absurd p
 above-is (fin false n k) p = ap (λ (z : ℕ). ltb (1 * 1 * down k) z) (one (n * up k)) ∙ ap (λ (z : ℕ). ltb z (n * up k)) (ones (down k))
 
 -- two tests of numbers that stand alike
-pub alike : (a d μ w : ℕ) → (w ≤ μ → d ≤ a) → (μ < w → a < d) → ltb μ w ≡ ltb a d
+alike : (a d μ w : ℕ) → (w ≤ μ → d ≤ a) → (μ < w → a < d) → ltb μ w ≡ ltb a d
 alike a d μ w f g = go (decLe w μ)
   where
     go : Dec (w ≤ μ) → ltb μ w ≡ ltb a d

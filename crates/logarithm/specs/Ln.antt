@@ -15,8 +15,11 @@ unfoldable pub coefficient : ℕ → Float
 coefficient j = round binary64 false 1 (oddNumber j)
 
 -- 1 + z / 3 + z ^ 2 / 5 + .. + z ^ 10 / 21
+abbrev pub highest : ℕ
+highest = 10
+
 unfoldable pub sumOf : Float → Float
-sumOf z = horner coefficient z 0 10
+sumOf z = horner coefficient z 0 highest
 
 -- the logarithm of an m near 1, by t = (m - 1) / (m + 1)
 unfoldable pub nearOne : Float → Float

@@ -54,8 +54,8 @@ fn of_pattern(b: u64) -> f64
 
 // The logarithm of a positive, normal and finite x; of any other it is outside.
 pub fn ln(x: f64) -> Answer
-    ensures same { λ r. ⌜ r ≡ lnOf x ⌝ }
-    ensures near { λ r. ⌜ LnAnswer x r ⌝ }
+    ensures { λ r. ⌜ r ≡ lnOf x ⌝ }
+    ensures { λ r. ⌜ LnAnswer x r ⌝ }
 {
     if 2.2250738585072014e-308 <= x {
         if x < 1.0 / 0.0 {

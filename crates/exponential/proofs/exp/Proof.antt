@@ -1,10 +1,10 @@
 -- `exp` meets its contract, branch by branch. Assumes nothing.
 use mathlib.Core.Path.{_≡_, sym, ap, _∙_, subst}
-use mathlib.Core.Bool.{Bool, not}
+use mathlib.Core.Bool.{Bool}
 use Prim.Native.Nat.{ℕ, _^_, _≤_}
 use lib.Dec.{T, leb}
-use lib.Ieee.{Float, binary64, fits, ofBits, div, neg, toBits}
-use Rattle.exponential.specs.Exp.{units, insideOf, expOf}
+use lib.Ieee.{binary64, fits, ofBits, div, toBits}
+use Rattle.exponential.specs.Exp.{units, insideOf}
 use Rattle.exponential.proofs.Guess.{Nearest, limit}
 use Rattle.exponential.proofs.Branches.{answered, at-nan, above, below, Inside, inside, not-nan, bits-most, sign-bit, units-are, units-small, rest-small, inside-is}
 use Rattle.exponential.proofs.exp.Statement.{statement}

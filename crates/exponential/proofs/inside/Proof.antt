@@ -4,8 +4,8 @@ use mathlib.Core.Path.{sym, ap, _∙_}
 use Prim.Native.Nat.{_*_}
 use lib.Ieee.{Float}
 use Rattle.number.specs.F64.{_⊗_}
-use Rattle.exponential.specs.Exp.{multiples, restOf}
-use Rattle.exponential.proofs.Cases.{sumAt, without-rest, with-rest}
+use Rattle.exponential.specs.Exp.{multiples, restOf, sumAt}
+use Rattle.exponential.proofs.Cases.{without-rest, with-rest}
 use Rattle.exponential.proofs.inside.Statement.{statement}
 use Rattle.exponential.proofs.inside.Tie as tie
 

@@ -5,10 +5,9 @@ use mathlib.Core.Bool.{Bool, cond}
 use mathlib.Core.Logic.{⊎-elim}
 use Prim.Native.Nat.{ℕ, _+_, _-_, _^_, _≤_}
 use native.Mathlib.Omega.{arith}
-use lib.Dec.{T, ltb, le→leb}
-use lib.IntN.{pos}
-use lib.Ieee.{binary64, inFloat, ofInt, unlike}
-use Rattle.number.specs.F64.{_⊗_, −_}
+use lib.Dec.{ltb, le→leb}
+use lib.Ieee.{inFloat, unlike}
+use Rattle.number.specs.F64.{−_}
 use Rattle.exponential.specs.Exp.{unit, restOf}
 use Rattle.exponential.proofs.rest.Statement.{statement}
 use Rattle.exponential.proofs.rest.Tie as tie

@@ -4,7 +4,7 @@ use Prim.Native.Nat.{_*_, _/_, _≤_}
 use native.Mathlib.Nat.{le-trans, le-of-eq, le-of-lt}
 use lib.Dec.{lit≤}
 use borrow.Author.Needs.{needs}
-use Rattle.cosine.specs.Cos.{one, fallOf}
+use Rattle.cosine.specs.Cos.{one, steps, fallOf}
 use Rattle.cosine.proofs.Inner.{code-cap}
 use Rattle.cosine.proofs.Products.{square-is, small-square, fall-code, fall-room, one-less-below, one-less-above}
 use Rattle.cosine.proofs.sum.cos_of_rest.Statement.{statement}
@@ -28,7 +28,7 @@ inner-requires : tie.Need-inner-requires
 inner-requires c κs = small c
 
 times-requires : tie.Need-times-requires
-times-requires c κs = (small (c .before), le-trans (le-of-eq (c .inner .ensures)) (code-cap (c .before .high-product .result) 1 30 (small (c .before)) (lit≤ tt)))
+times-requires c κs = (small (c .before), le-trans (le-of-eq (c .inner .ensures)) (code-cap (c .before .high-product .result) 1 steps (small (c .before)) (lit≤ tt)))
 
 sub-float-of : tie.Need-sub-float-of
 sub-float-of c = le-of-lt (c .if1 .taken)

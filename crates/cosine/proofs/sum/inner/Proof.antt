@@ -5,7 +5,7 @@ use native.Mathlib.Nat.{le-trans, le-of-eq, le-antisymm, mul-pos}
 use native.Mathlib.Omega.{arith}
 use borrow.Author.Needs.{needs}
 use mir.Facts.{fits-le, fits-lit}
-use Rattle.cosine.specs.Cos.{one, alternating}
+use Rattle.cosine.specs.Cos.{alternating}
 use Rattle.cosine.proofs.Inner.{code-cap}
 use Rattle.cosine.proofs.Products.{turned, divisor-most}
 use Rattle.cosine.proofs.sum.inner.Statement.{statement}
