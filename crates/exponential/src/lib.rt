@@ -22,19 +22,16 @@ fn power_of_two(negative: bool, k: u64) -> f64
 }
 
 // The rest u - m as a float, m - u where the argument is negative: whole, below 2^53, times a power
-// of two, and so exact.
+// of two, and so exact. Its sign is worked out and not branched on, since no processor can guess it.
 fn rest(negative: bool, u: u64, m: u64) -> f64
     requires { ⌜ (u - m) + (m - u) ≤ 2 ^ 53 ⌝ }
     ensures { λ r. ⌜ r ≡ restOf negative u m ⌝ }
 {
-    let over = u < m;
-    let size = if over { m - u } else { u - m };
-    let unit = if over != negative {
-        -5.5511151231257827021181583404541015625e-17
-    } else {
-        5.5511151231257827021181583404541015625e-17
-    };
-    (size as f64) * unit
+    let over = std::num::wrapping_sub_u64(u, m) / 0x8000_0000_0000_0000;
+    let sign = if negative { 1 } else { 0 };
+    let size = if u < m { m - u } else { u - m };
+    let unit = 0x3c90_0000_0000_0000 + (sign + over) % 2 * 0x8000_0000_0000_0000;
+    (size as f64) * f64::from_bits(unit)
 }
 
 // The answer for an argument of u units and its k.
