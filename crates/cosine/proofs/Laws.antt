@@ -1,4 +1,4 @@
--- What the crates above may take from the cosine: inside exactly where the argument is, and then a number from -1 to 1 that binary64 holds. Assumes nothing.
+-- What the crates above may take from the cosine: the band of document 01; inside exactly where the argument is, and then a number from -1 to 1 that binary64 holds. Assumes nothing.
 use mathlib.Core.Path.{_≡_, refl, sym, subst}
 use mathlib.Core.Bool.{Bool, true, false, not, cond}
 use Prim.Native.Nat.{ℕ, _+_, _-_, _*_, _/_, _^_, _≤_}
@@ -12,7 +12,7 @@ use lib.Ieee.Fits.{round-fits, neg-fits, cond-fits}
 use lib.Ieee.Positive.{num, den}
 use borrow.Author.Tests.{ltb-true, ltb-false}
 use Rattle.number.specs.Range.{finite}
-use Rattle.elementary.specs.Exact.{cosInside}
+use Rattle.elementary.specs.Exact.{cosInside, CosAnswer}
 use Rattle.elementary.specs.declared.answer.Answer.{Answer}
 use Rattle.elementary.specs.declared.answer.Answer.the-variants.{Outside, Inside}
 use Rattle.cosine.specs.Cos.{one, unitsOf, restOf, fallOf, floatOf, oneLess, cosInsideOf, cosOf}
@@ -21,8 +21,12 @@ use Rattle.cosine.proofs.Reduced.{angle}
 use Rattle.cosine.proofs.Value.{fall-is}
 use Rattle.cosine.proofs.Answers.{float-value}
 use Rattle.cosine.proofs.Bounded.{fall-most}
-use Rattle.cosine.proofs.Meets.{inside-bound, inside-near, opened}
+use Rattle.cosine.proofs.Meets.{inside-bound, inside-near, opened, meets}
 use Rattle.cosine.proofs.Inside.{chosen, answer-outside}
+
+-- the answer is the document's, for every float
+pub cos-answer : (x : Float) → CosAnswer x (cosOf x)
+cos-answer = meets
 
 -- ---- from -1 to 1
 at-most-one : (z : Float) (n : ℕ) → HasValue z false n (2 ^ 51) → n ≤ 2 ^ 51 → (num z ≤ den z) × (num (neg z) ≤ den (neg z))

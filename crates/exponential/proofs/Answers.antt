@@ -141,9 +141,9 @@ by-test t m e f true l high low = refl
 by-test t m e f false true high low = refl
 by-test t m e f false false high low = inside-answer t m e f high low
 
-pub exp-answer : (x : Float) → T (fits binary64 x) → ExpAnswer x (expOf x)
+pub meets : (x : Float) → T (fits binary64 x) → ExpAnswer x (expOf x)
 unfolding ExpAnswer expOf isNan lt ofBits neg
-exp-answer nan f = refl
-exp-answer (inf false) f = refl
-exp-answer (inf true) f = refl
-exp-answer (fin t m e) f = by-test t m e f (lt 709f (fin t m e)) (lt (fin t m e) (− 708f)) refl refl
+meets nan f = refl
+meets (inf false) f = refl
+meets (inf true) f = refl
+meets (fin t m e) f = by-test t m e f (lt 709f (fin t m e)) (lt (fin t m e) (− 708f)) refl refl

@@ -19,11 +19,11 @@ use Rattle.exponential.specs.Exp.{units, multiples, insideOf, expOf}
 use Rattle.exponential.proofs.Guess.{Nearest, limit}
 use Rattle.exponential.proofs.Scaled.{U, pattern-is, pattern-cross}
 use Rattle.exponential.proofs.Reduced.{gap}
-use Rattle.exponential.proofs.Answers.{unsigned, size-most, units-limit, turns, rest-most, exp-answer}
+use Rattle.exponential.proofs.Answers.{unsigned, size-most, units-limit, turns, rest-most, meets}
 
 -- the second clause follows from the first
 pub answered : (x r : Float) → T (fits binary64 x) → r ≡ expOf x → (r ≡ expOf x) × ExpAnswer x r
-answered x r f e = (e, subst (ExpAnswer x) (sym e) (exp-answer x f))
+answered x r f e = (e, subst (ExpAnswer x) (sym e) (meets x f))
 
 -- ---- outside
 pub at-nan : (x : Float) → ne x x ≡ true → x ≡ expOf x

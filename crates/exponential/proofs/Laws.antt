@@ -1,4 +1,4 @@
--- What the crates above may take from exp: from -708 to 709 the answer is a number above zero, and in any case a float that binary64 holds. Assumes nothing.
+-- What the crates above may take from exp: the band of document 01, and from it, that from -708 to 709 the answer is a number above zero, and in any case a float that binary64 holds. Assumes nothing.
 use mathlib.Core.Path.{_≡_, refl, sym}
 use mathlib.Core.Bool.{Bool, true, false, _&&_, _||_, cond}
 use mathlib.Core.Logic.{_⊎_, inl, inr}
@@ -17,6 +17,11 @@ use Rattle.elementary.specs.Band.{signOf}
 use Rattle.elementary.specs.Exact.{709f, 708f, expTurns, ExpAnswer}
 use Rattle.exponential.specs.Exp.{units, multiples, powerOfTwo, restOf, insideOf, expOf, sumAt}
 use Rattle.exponential.proofs.Powers.{field}
+use Rattle.exponential.proofs.Answers.{meets}
+
+-- the answer is the document's, for every f64
+pub exp-answer : (x : Float) → T (fits binary64 x) → ExpAnswer x (expOf x)
+exp-answer = meets
 
 -- ---- binary64 holds the answer
 inside-fits : (s : Bool) (u k : ℕ) → T (fits binary64 (insideOf s u k))

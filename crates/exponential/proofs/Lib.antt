@@ -11,6 +11,6 @@ mod Value
 mod Powers
 mod Rounded
 mod Near
-pub mod Answers
+mod Answers
 mod Branches
 pub mod Laws

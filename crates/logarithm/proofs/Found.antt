@@ -156,9 +156,9 @@ module _ (x : Float) (f : T (fits binary64 x)) (i : T (lnInside x)) where
   zero-at-one e = ap (λ (z : Float). ofPattern (toBits binary64 z)) (one-only x f (normal-above x i) e) ∙ of-one
 
 -- ---- the law
-pub near : (x : Float) → T (fits binary64 x) → LnAnswer x (lnOf x)
+pub meets : (x : Float) → T (fits binary64 x) → LnAnswer x (lnOf x)
 unfolding LnAnswer lnOf
-near x f = go (lnInside x) refl
+meets x f = go (lnInside x) refl
   where
     go : (c : Bool) → lnInside x ≡ c → Says (lnInside x) (λ y. (T (eq x 1f) → y ≡ 0f) × WithinOfIt 48 (valueOf y) (lnValue x)) (cond c (Inside (ofPattern (toBits binary64 x))) Outside)
     go true e = let i : T (lnInside x) = subst T (sym e) tt in (i, found-finite x f i (ofPattern (toBits binary64 x)) (found x f i), (zero-at-one x f i, found-within x f i (ofPattern (toBits binary64 x)) (found x f i)))

@@ -1,4 +1,4 @@
--- What the crates above may take from the logarithm: inside exactly where x is normal, positive and finite; a finite number that binary64 holds; its sign; and that the exact one
+-- What the crates above may take from the logarithm: the band of document 01; inside exactly where x is normal, positive and finite; a finite number that binary64 holds; its sign; and that the exact one
 -- is taken apart as document 01 says. Assumes nothing.
 use mathlib.Core.Path.{_≡_, refl, sym, ap, _∙_, subst}
 use mathlib.Core.Bool.{Bool, true, false, not, cond}
@@ -24,7 +24,11 @@ use Rattle.logarithm.specs.Ln.{field, part, 1023f, Lf, turns, nearOne, o
 use Rattle.logarithm.proofs.Inside.{normal-above}
 use Rattle.logarithm.proofs.Cases.{one-only}
 use Rattle.logarithm.proofs.Sign.{below-is, above-is}
-use Rattle.logarithm.proofs.Found.{Found, other, none, found, part-range}
+use Rattle.logarithm.proofs.Found.{Found, other, none, found, part-range, meets}
+
+-- the answer is the document's, for every f64
+pub ln-answer : (x : Float) → T (fits binary64 x) → LnAnswer x (lnOf x)
+ln-answer = meets
 
 -- where x is inside, the answer is a number, finite and near; where it is not, it says so
 pub ln-number : (x : Float) (r : Answer) → LnAnswer x r → T (lnInside x) → Number (λ (y : Float). (T (eq x 1f) → y ≡ 0f) × WithinOfIt 48 (valueOf y) (lnValue x)) r

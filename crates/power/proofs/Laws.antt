@@ -1,4 +1,4 @@
--- What the crates above may take from the powers: inside exactly where the arguments are, and then a number above zero that binary64 holds. Assumes nothing.
+-- What the crates above may take from the powers: the bands of document 01; inside exactly where the arguments are, and then a number above zero that binary64 holds. Assumes nothing.
 use mathlib.Core.Path.{_≡_, refl}
 use mathlib.Core.Bool.{Bool, true, false, not, cond}
 use Prim.Native.Nat.{ℕ, _+_, _-_, _*_, _/_, _%_, _^_}
@@ -9,12 +9,19 @@ use lib.Ieee.Fits.{cond-fits, div-fits}
 use lib.Ieee.Positive.{positive}
 use Rattle.number.specs.F64.{1f, _⊘_}
 use Rattle.elementary.specs.Band.{Says}
-use Rattle.elementary.specs.Exact.{powerInside}
+use Rattle.elementary.specs.Exact.{powerInside, InversePower, InverseRoot}
 use Rattle.elementary.specs.declared.answer.Answer.{Answer}
 use Rattle.elementary.specs.declared.answer.Answer.the-variants.{Outside, Inside}
 use Rattle.elementary.proofs.Answers.{outside-says-so}
 use Rattle.power.specs.Power.{products, digits, rootOfPattern, inversePowerOf, inverseRootOf}
-use Rattle.power.proofs.Answers.{PowerHolds, RootHolds, power-says, root-says}
+use Rattle.power.proofs.Answers.{PowerHolds, RootHolds, power-says, root-says, power-meets, root-meets}
+
+-- the answers are the document's, for every f64 and every s
+pub power-answer : (a : Float) (s : ℕ) → InversePower a s (inversePowerOf a s)
+power-answer a s = power-meets a s refl .1
+
+pub root-answer : (a : Float) (s : ℕ) → T (fits binary64 a) → InverseRoot a s (inverseRootOf a s)
+root-answer a s f = root-meets a s f refl .1
 
 -- a number above zero, and so finite, that binary64 holds
 pub record Positive (r : Answer) : Type 0 where

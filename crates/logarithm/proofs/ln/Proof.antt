@@ -8,7 +8,7 @@ use Rattle.elementary.specs.declared.answer.Answer.the-variants.{Outside, Insid
 use Rattle.elementary.specs.Exact.{lnInside, LnAnswer}
 use Rattle.logarithm.specs.Ln.{ofPattern, lnOf}
 use Rattle.logarithm.proofs.Inside.{inside, outside-below, outside-above, normal-above, number, bits-least, bits-most}
-use Rattle.logarithm.proofs.Found.{near}
+use Rattle.logarithm.proofs.Found.{meets}
 use Rattle.logarithm.proofs.ln.Statement.{statement}
 use Rattle.logarithm.proofs.ln.Tie as tie
 
@@ -33,8 +33,8 @@ of-pattern-requires c κs =
     (bits-least x (held (c .before .before)) (within-T c), bits-most x (held (c .before .before)) (within-T c))
 
 -- the second clause follows from the first
-meets : (x : Float) (r : Answer) → T (fits binary64 x) → r ≡ lnOf x → (r ≡ lnOf x) × LnAnswer x r
-meets x r f e = (e, subst (LnAnswer x) (sym e) (near x f))
+answered : (x : Float) (r : Answer) → T (fits binary64 x) → r ≡ lnOf x → (r ≡ lnOf x) × LnAnswer x r
+answered x r f e = (e, subst (LnAnswer x) (sym e) (meets x f))
 
 at-inside : (x : Float) → lnInside x ≡ true → Inside (ofPattern (toBits binary64 x)) ≡ lnOf x
 unfolding lnOf
@@ -47,14 +47,14 @@ at-outside x e = rw e refl
 returns : tie.Need-returns
 returns c =
     let x = c .before .before .before .args .x in
-    meets x (Inside (c .of-pattern .result)) (held (c .before .before .before)) (ap Inside (c .of-pattern .ensures) ∙ at-inside x (within (c .before)))
+    answered x (Inside (c .of-pattern .result)) (held (c .before .before .before)) (ap Inside (c .of-pattern .ensures) ∙ at-inside x (within (c .before)))
 
 returns-2 : tie.Need-returns-2
 unfolding ofBits div
-returns-2 c = let x = c .before .before .args .x in meets x Outside (held (c .before .before)) (at-outside x (outside-above x (c .before .if1 .taken) (c .if2 .left)))
+returns-2 c = let x = c .before .before .args .x in answered x Outside (held (c .before .before)) (at-outside x (outside-above x (c .before .if1 .taken) (c .if2 .left)))
 
 returns-3 : tie.Need-returns-3
-returns-3 c = let x = c .before .args .x in meets x Outside (held (c .before)) (at-outside x (outside-below x (c .if1 .left)))
+returns-3 c = let x = c .before .args .x in answered x Outside (held (c .before)) (at-outside x (outside-below x (c .if1 .left)))
 
 pub ln-spec : {M : Type 1} → statement M
 ln-spec = tie.close (tie.spec float-to-bits-of-pattern of-pattern-requires returns returns-2 returns-3)
