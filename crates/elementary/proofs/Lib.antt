@@ -1,4 +1,5 @@
 -- What the proofs of the four functions share, and what the crates above may take from an answer.
+pub mod Patterns
 pub mod Ratio
 pub mod Rounding
 pub mod Weights

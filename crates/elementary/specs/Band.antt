@@ -1,5 +1,5 @@
 -- How far a float may be from an exact value, and what an answer says. Definitions only.
-use mathlib.Core.Bool.{Bool, true, false, not}
+use mathlib.Core.Bool.{Bool, false, not}
 use Prim.Native.Nat.{ℕ, _*_, _^_, _≤_}
 use lib.Dec.{T}
 use lib.Ieee.{Float, nan, inf, fin}

@@ -7,11 +7,12 @@ use native.Mathlib.Omega.{arith}
 use lib.IntN.{ℤ}
 use lib.Dec.{T, eqb, eqb→eq, nltb→le, lit≤}
 use lib.Ieee.{Float, nan, inf, fin, binary64, fits, up, down, lt, eq, isNan, ofBits, neg}
-use lib.Ieee.Fits.{and-l, neg-fits}
+use lib.Ieee.Fits.{and-l}
 use lib.Ieee.Positive.{positive}
 use Rattle.number.specs.F64.{0f, 1f, −_}
 use Rattle.elementary.specs.Band.{valueOf, WithinOfIt}
 use Rattle.elementary.specs.Exact.{expTurns, expValue, 709f, 708f, ExpAnswer, If}
+use Rattle.elementary.proofs.Patterns.{size-fits}
 use Rattle.elementary.proofs.Rounding.{Close}
 use Rattle.elementary.specs.Series.{factorial}
 use Rattle.elementary.proofs.Chain.{under, over}
@@ -25,12 +26,6 @@ use Rattle.exponential.proofs.Value.{timesPower, ω, Ω, sign, value-ov
 use Rattle.exponential.proofs.Powers.{field}
 use Rattle.exponential.proofs.Near.{answer-close}
 use Rattle.exponential.proofs.Cases.{without-rest}
-
--- binary64 holds the size of what it holds
-pub unsigned : (t : Bool) (m : ℕ) (e : ℤ) → T (fits binary64 (fin t m e)) → T (fits binary64 (fin false m e))
-unfolding neg
-unsigned false m e f = f
-unsigned true m e f = neg-fits binary64 (fin true m e) f
 
 of-false : {b : Bool} → b ≡ false → T (not b)
 of-false e = subst (λ (z : Bool). T (not z)) (sym e) tt
@@ -48,7 +43,7 @@ module _ (t : Bool) (m : ℕ) (e : ℤ) (f : T (fits binary64 (fin t m e))) (hig
 
   pub in-units : Units (m * up e) (down e) (units x)
   unfolding units
-  in-units = units-of m e (unsigned t m e f)
+  in-units = units-of m e (size-fits t m e f)
 
   -- at most 709, and below zero at most 708
   pub size-most : m * up e ≤ (709 - cond t 1 0) * down e

@@ -1,25 +1,23 @@
 -- The branches of `exp`: what the tests on the way say of x, and what the bit pattern of an x inside the range is. Assumes nothing.
 use mathlib.Core.Path.{_≡_, refl, sym, ap, _∙_, subst}
 use mathlib.Core.Bool.{Bool, true, false, not, cond}
-use Prim.Native.Nat.{ℕ, _+_, _-_, _*_, _/_, _%_, _^_, _≤_, _<_}
-use native.Mathlib.Nat.{le-trans, le-of-eq, not-le-of-lt, le-of-mul-le-mul-right, mul-le-mul-right, lt-of-not-le, zero-add}
-use native.Mathlib.Decide.{decLe}
+use Prim.Native.Nat.{ℕ, _-_, _*_, _/_, _%_, _^_, _≤_, _<_}
+use native.Mathlib.Nat.{le-trans, le-of-eq, le-of-mul-le-mul-right, mul-le-mul-right}
 use native.Mathlib.Omega.{arith}
 use lib.IntN.{ℤ}
 use lib.Dec.{T, leb, lit≤}
 use lib.Ieee.Fits.{down-pos}
 use lib.Ieee.{Float, nan, inf, fin, binary64, fits, up, down, lt, ne, isNan, ofBits, toBits, neg}
-use borrow.Author.Tests.{le-leb, lt-leb}
 use Rattle.number.specs.F64.{0f, −_}
 use Rattle.number.proofs.Floats.{differs-is-nan, is-the-nan}
 use Rattle.root.specs.Parts.{patternUnits}
-use Rattle.root.proofs.Floats.{bits-below, pattern-order}
 use Rattle.elementary.specs.Exact.{709f, 708f, ExpAnswer}
+use Rattle.elementary.proofs.Patterns.{size-fits, size-bits, sign-bit, pattern-at-most}
 use Rattle.exponential.specs.Exp.{units, multiples, insideOf, expOf}
 use Rattle.exponential.proofs.Guess.{Nearest, limit}
 use Rattle.exponential.proofs.Scaled.{U, pattern-is, pattern-cross}
 use Rattle.exponential.proofs.Reduced.{gap}
-use Rattle.exponential.proofs.Answers.{unsigned, size-most, units-limit, turns, rest-most, meets}
+use Rattle.exponential.proofs.Answers.{size-most, units-limit, turns, rest-most, meets}
 
 -- the second clause follows from the first
 pub answered : (x r : Float) → T (fits binary64 x) → r ≡ expOf x → (r ≡ expOf x) × ExpAnswer x r
@@ -62,12 +60,6 @@ inside (inf false) f n h l = absurd (let z : _≡_ {A = ℕ} 0 1 = cc in omega a
 inside (inf true) f n h l = absurd (let z : _≡_ {A = ℕ} 0 1 = cc in omega arith)
 inside (fin t m e) f n h l = record { t = t; m = m; e = e; is = refl; held = f; high = h; low = l }
 
--- the sign's bit, and below it the pattern of the size
-bits-are : (t : Bool) (m : ℕ) (e : ℤ) → toBits binary64 (fin t m e) ≡ cond t (2 ^ 63) 0 + toBits binary64 (fin false m e)
-unfolding toBits
-bits-are false m e = sym (zero-add (toBits binary64 (fin false m e)))
-bits-are true m e = omega arith
-
 limited : (t : Bool) → (709 - cond t 1 0) * 2 ^ 1074 ≤ patternUnits 0x4086_2800_0000_0000
 unfolding patternUnits
 limited false = lit≤ tt
@@ -78,39 +70,29 @@ module _ (x : Float) (i : Inside x) where
   p = toBits binary64 (fin false (i .m) (i .e))
 
   held : T (fits binary64 (fin false (i .m) (i .e)))
-  held = unsigned (i .t) (i .m) (i .e) (i .held)
+  held = size-fits (i .t) (i .m) (i .e) (i .held)
 
-  bits : toBits binary64 x ≡ cond (i .t) (2 ^ 63) 0 + p
-  bits = ap (toBits binary64) (i .is) ∙ bits-are (i .t) (i .m) (i .e)
+  pub bits-are : toBits binary64 x % 2 ^ 63 ≡ p
+  bits-are = ap (λ (z : Float). toBits binary64 z % 2 ^ 63) (i .is) ∙ size-bits (i .t) (i .m) (i .e) (i .held)
 
-  pub size-bits : toBits binary64 x % 2 ^ 63 ≡ p
-  size-bits = ap (λ (b : ℕ). b % 2 ^ 63) bits ∙ go (i .t) p (bits-below (fin false (i .m) (i .e)) held tt)
-    where
-      go : (t : Bool) (p : ℕ) → p < 9218868437227405312 → (cond t (2 ^ 63) 0 + p) % 2 ^ 63 ≡ p
-      go false p h = omega arith
-      go true p h = omega arith
-
-  pub sign-bit : leb (2 ^ 63) (toBits binary64 x) ≡ i .t
-  sign-bit = ap (leb (2 ^ 63)) bits ∙ go (i .t) p (bits-below (fin false (i .m) (i .e)) held tt)
-    where
-      go : (t : Bool) (p : ℕ) → p < 9218868437227405312 → leb (2 ^ 63) (cond t (2 ^ 63) 0 + p) ≡ t
-      go false p h = lt-leb (2 ^ 63) (0 + p) (omega arith)
-      go true p h = le-leb (2 ^ 63) (2 ^ 63 + p) (omega arith)
+  pub sign-is : leb (2 ^ 63) (toBits binary64 x) ≡ i .t
+  sign-is = ap (λ (z : Float). leb (2 ^ 63) (toBits binary64 z)) (i .is) ∙ sign-bit (i .t) (i .m) (i .e) (i .held)
 
   -- the pattern of 709 is the last
   pub bits-most : toBits binary64 x % 2 ^ 63 ≤ 0x4086_2800_0000_0000
-  bits-most = le-trans (le-of-eq size-bits) (go (decLe p 0x4086_2800_0000_0000))
+  bits-most =
+      le-trans (le-of-eq bits-are)
+      (pattern-at-most p 0x4086_2800_0000_0000
+      (le-trans
+      (at-most (i .m * up (i .e)) (down (i .e)) (patternUnits p) (709 - cond (i .t) 1 0) (2 ^ 1074) (down-pos (i .e)) (pattern-cross (i .m) (i .e) held) (size-most (i .t) (i .m) (i .e) (i .held) (i .high) (i .low)))
+      (limited (i .t))))
     where
       at-most : (a d u c t : ℕ) → 0 < d → a * t ≡ u * d → a ≤ c * d → u ≤ c * t
       at-most a d u c t q e h = le-of-mul-le-mul-right {k = d} (omega (arith, mul-le-mul-right t h)) q
 
-      go : Dec (p ≤ 0x4086_2800_0000_0000) → p ≤ 0x4086_2800_0000_0000
-      go (yes h) = h
-      go (no h) = absurd (not-le-of-lt (pattern-order 0x4086_2800_0000_0000 p (lt-of-not-le h)) (le-trans (at-most (i .m * up (i .e)) (down (i .e)) (patternUnits p) (709 - cond (i .t) 1 0) (2 ^ 1074) (down-pos (i .e)) (pattern-cross (i .m) (i .e) held) (size-most (i .t) (i .m) (i .e) (i .held) (i .high) (i .low))) (limited (i .t))))
-
   pub units-are : patternUnits (toBits binary64 x % 2 ^ 63) / 2 ^ 1020 ≡ units x
   unfolding units
-  units-are = ap (λ (b : ℕ). patternUnits b / 2 ^ 1020) size-bits ∙ pattern-is (i .m) (i .e) held ∙ ap units (sym (i .is))
+  units-are = ap (λ (b : ℕ). patternUnits b / 2 ^ 1020) bits-are ∙ pattern-is (i .m) (i .e) held ∙ ap units (sym (i .is))
 
   pub units-small : units x ≤ limit
   units-small = subst (λ (z : Float). units z ≤ limit) (sym (i .is)) (units-limit (i .t) (i .m) (i .e) (i .held) (i .high) (i .low))

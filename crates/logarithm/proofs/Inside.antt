@@ -1,22 +1,20 @@
 -- Where the logarithm is defined: what its tests say of x, and of x's pattern. Assumes nothing.
-use mathlib.Core.Path.{_≡_, refl, sym, subst}
-use mathlib.Core.Bool.{true, false, not, true≢false}
+use mathlib.Core.Path.{_≡_, refl, sym}
+use mathlib.Core.Bool.{true, false, true≢false}
 use Prim.Native.Nat.{_^_, _≤_, _<_}
-use native.Mathlib.Nat.{lt-of-not-le, not-le-of-lt, le-of-mul-le-mul-right}
-use native.Mathlib.Decide.{decLe}
+use native.Mathlib.Nat.{le-of-mul-le-mul-right}
 use lib.Dec.{T, lit<}
 use lib.Pow.{pow-pos}
-use lib.Ieee.{Float, nan, inf, fin, binary64, fits, le, lt, isNan, ofBits, toBits}
-use lib.Ieee.Bits.{ofBits-toBits}
+use lib.Ieee.{Float, nan, inf, fin, binary64, fits, le, lt, ofBits, toBits}
 use lib.Ieee.Fits.{and-l, and-r}
 use lib.Ieee.Exact.{HasValue}
 use lib.Ieee.Positive.{positive, above, above-of-le, values-of-le}
 use Rattle.number.specs.Range.{finite}
-use Rattle.root.specs.Root.{fromZero}
 use Rattle.root.specs.Parts.{patternUnits}
 use Rattle.root.proofs.Parts.{H}
-use Rattle.root.proofs.Floats.{INF, bits-below, pattern-value, pattern-order}
+use Rattle.root.proofs.Floats.{INF, bits-below, pattern-value}
 use Rattle.elementary.specs.Exact.{lnInside}
+use Rattle.elementary.proofs.Patterns.{from-zero, own-pattern, pattern-at-most}
 
 -- the least normal float
 abbrev pub least : Float
@@ -54,31 +52,17 @@ normal-above x i = go x (above-of-le least x least-above (and-l (le least x) (fi
     go (fin true m e) a f = a
     go (fin false m e) a f = a
 
-pub number : (x : Float) → T (positive x) → T (not (isNan x))
-unfolding isNan
-number nan p = absurd p
-number (inf s) p = tt
-number (fin s m e) p = tt
-
 module _ (x : Float) (f : T (fits binary64 x)) (i : T (lnInside x)) where
   p : T (positive x)
   p = normal-above x i
-
-  from-zero : (x : Float) → T (positive x) → T (fromZero x)
-  from-zero nan p = absurd p
-  from-zero (inf s) p = absurd p
-  from-zero (fin true m e) p = absurd p
-  from-zero (fin false m e) p = tt
 
   pub bits-most : toBits binary64 x < INF
   bits-most = bits-below x f (from-zero x p)
 
   pub units : HasValue x false (patternUnits (toBits binary64 x)) (2 ^ 1074)
-  units = subst (λ (z : Float). HasValue z false (patternUnits (toBits binary64 x)) (2 ^ 1074)) (ofBits-toBits binary64 x f) (pattern-value (toBits binary64 x) bits-most)
+  units = own-pattern x f (from-zero x p)
 
   pub bits-least : H ≤ toBits binary64 x
-  bits-least = go (decLe H (toBits binary64 x))
-    where
-      go : Dec (H ≤ toBits binary64 x) → H ≤ toBits binary64 x
-      go (yes y) = y
-      go (no n) = absurd (not-le-of-lt (pattern-order (toBits binary64 x) H (lt-of-not-le n)) (le-of-mul-le-mul-right (values-of-le least x (patternUnits H) (2 ^ 1074) (patternUnits (toBits binary64 x)) (2 ^ 1074) least-above p (pattern-value H (lit< tt)) units (and-l (le least x) (finite x) i)) (pow-pos 1074)))
+  bits-least =
+      pattern-at-most H (toBits binary64 x)
+      (le-of-mul-le-mul-right (values-of-le least x (patternUnits H) (2 ^ 1074) (patternUnits (toBits binary64 x)) (2 ^ 1074) least-above p (pattern-value H (lit< tt)) units (and-l (le least x) (finite x) i)) (pow-pos 1074))

@@ -1,18 +1,19 @@
 -- A normal pattern b as 2 ^ (field b - 1023) times the number of part b, which is μ / 2 ^ 53, from 3/4 up and below 3/2. Assumes nothing.
 use mathlib.Core.Path.{_≡_, sym, ap, _∙_, subst}
-use mathlib.Core.Bool.{Bool, false}
+use mathlib.Core.Bool.{false}
 use Prim.Native.Nat.{ℕ, suc, _+_, _-_, _*_, _/_, _%_, _^_, _≤_, _<_}
-use native.Mathlib.Nat.{lt-of-not-le, mul-assoc, eq-of-mul-eq-mul-right, pow-succ'}
+use native.Mathlib.Nat.{lt-of-not-le, mul-assoc, pow-succ'}
 use native.Mathlib.Decide.{decLe}
 use native.Mathlib.Omega.{arith}
 use lib.Dec.{T, le→leb}
 use lib.IntN.{pos}
 use lib.Pow.{pow-pos}
-use lib.Ieee.{Float, nan, inf, fin, up, down, binary64, ofBits, inFloat}
+use lib.Ieee.{binary64, ofBits, inFloat}
 use lib.Ieee.Exact.{HasValue}
 use Rattle.root.specs.Parts.{patternUnits}
 use Rattle.root.proofs.Parts.{H, normal}
 use Rattle.root.proofs.Floats.{INF, pattern-value}
+use Rattle.elementary.proofs.Patterns.{value-same}
 use Rattle.logarithm.specs.Ln.{field, part}
 
 -- 2 ^ 53
@@ -33,15 +34,6 @@ unfolding inFloat
 field-float b h k = le→leb (field b) W (omega (arith, field-range b h k))
 
 -- ---- the number
--- the same number as another fraction
-pub value-same : (x : Float) (s : Bool) (a c b d : ℕ) → 0 < c → a * d ≡ b * c → HasValue x s a c → HasValue x s b d
-value-same nan s a c b d C e v = v
-value-same (inf t) s a c b d C e v = v
-value-same (fin t m k) s a c b d C e v = (v .0, eq-of-mul-eq-mul-right c C (m * up k * d) (b * down k) (turn (m * up k) d c ∙ ap (λ (z : ℕ). z * d) (v .1) ∙ turn a (down k) d ∙ ap (λ (z : ℕ). z * down k) e ∙ turn b c (down k)))
-  where
-    turn : (x y z : ℕ) → x * y * z ≡ x * z * y
-    turn x y z = omega arith
-
 pub record Split (b μ : ℕ) : Type 0 where
   pub units : 2 * patternUnits b ≡ μ * 2 ^ (field b - 1)
   pub value : HasValue (ofBits binary64 (part b)) false μ W

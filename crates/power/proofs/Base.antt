@@ -1,13 +1,13 @@
 -- What it says of a base and an s that they are inside, and powers of fractions. Assumes nothing.
 use mathlib.Core.Path.{_≡_, refl, sym, ap, _∙_, subst}
-use mathlib.Core.Bool.{true, false, not, _&&_}
+use mathlib.Core.Bool.{true, false, _&&_}
 use Prim.Native.Nat.{ℕ, zero, suc, _*_, _^_, _≤_}
 use native.Mathlib.Nat.{le-trans, le-of-eq, mul-comm, mul-one, one-mul, mul-mul-mul-comm, mul-le-mul-left, pow-zero, pow-suc, pow-succ', pow-le-pow-left, pow-le-pow-right}
 use native.Mathlib.Omega.{arith}
 use lib.Dec.{T, leb, leb→le}
 use lib.IntN.{pos, negsuc}
 use lib.Pow.{pow-pos}
-use lib.Ieee.{Float, nan, inf, fin, isNan, ofBits, le}
+use lib.Ieee.{Float, fin, ofBits, le}
 use lib.Ieee.Fits.{and-l, and-r}
 use lib.Ieee.Positive.{num, den, positive, le→cross, between}
 use Rattle.number.specs.Range.{isWithin}
@@ -56,12 +56,6 @@ base a s h =
 
 pub base-of : (a : Float) (s : ℕ) → powerInside a s ≡ true → Base a s
 base-of a s i = base a s (subst T (sym i) tt)
-
-pub no-nan-above : (x : Float) → T (positive x) → T (not (isNan x))
-unfolding isNan
-no-nan-above nan p = absurd p
-no-nan-above (inf s) p = absurd p
-no-nan-above (fin s m e) p = tt
 
 -- ---- powers
 pub mul-pow : (a b n : ℕ) → (a * b) ^ n ≡ a ^ n * b ^ n

@@ -1,21 +1,19 @@
 -- The numbers of the patterns that the root is made of, and of its base's. Assumes nothing.
 use mathlib.Core.Path.{_≡_, refl, sym, ap, _∙_, subst}
-use mathlib.Core.Bool.{true, false}
+use mathlib.Core.Bool.{false}
 use mathlib.Core.Logic.{_⊎_, inl, inr}
 use Prim.Native.Nat.{ℕ, suc, _+_, _-_, _*_, _/_, _%_, _^_, _≤_, _<_}
-use native.Mathlib.Nat.{mul-assoc, mul-pos, add-comm, eq-or-lt-of-le, pow-succ', le-of-mul-le-mul-right, le-trans, le-of-eq, lt-of-not-le, not-le-of-lt, lt-of-le-of-lt, lt-of-lt-of-le, mul-le-mul-left, mul-le-mul-right}
-use native.Mathlib.Decide.{decLe}
+use native.Mathlib.Nat.{mul-assoc, mul-pos, add-comm, eq-or-lt-of-le, pow-succ', le-of-mul-le-mul-right, le-trans, le-of-eq, mul-le-mul-left, mul-le-mul-right}
 use native.Mathlib.Omega.{arith}
 use lib.Dec.{T, lit<, lit≤}
 use lib.Pow.{pow-add, pow-pos}
-use lib.Ieee.{Float, nan, inf, fin, binary64, fits, ofBits, toBits}
-use lib.Ieee.Bits.{ofBits-toBits}
+use lib.Ieee.{Float, binary64, fits, ofBits, toBits}
 use lib.Ieee.Exact.{HasValue}
-use lib.Ieee.Positive.{num, den, positive, den-pos, value→cross}
-use Rattle.root.specs.Root.{fromZero}
+use lib.Ieee.Positive.{num, den, den-pos, value→cross}
 use Rattle.root.specs.Parts.{patternUnits}
 use Rattle.root.proofs.Parts.{H, normal}
-use Rattle.root.proofs.Floats.{pattern-value, pattern-order, bits-below}
+use Rattle.root.proofs.Floats.{pattern-value}
+use Rattle.elementary.proofs.Patterns.{from-zero, own-pattern, pattern-at-most}
 use Rattle.elementary.proofs.Ratio.{B}
 use Rattle.elementary.proofs.Rounding.{Close, close-of-value, close-to}
 use Rattle.power.specs.Power.{half}
@@ -66,17 +64,8 @@ pub record Bits (a : Float) (b : ℕ) : Type 0 where
   pub value : num a * 2 ^ 1074 ≡ (H + b % H) * 2 ^ (b / H - 1) * den a
 
 pub bits : (a : Float) (s : ℕ) → T (fits binary64 a) → Base a s → Bits a (toBits binary64 a)
-bits a s f k = go (toBits binary64 a) (value→cross a (patternUnits (toBits binary64 a)) (2 ^ 1074) own) (decLe (903 * H) (toBits binary64 a)) (decLe (toBits binary64 a) (1143 * H))
+bits a s f k = go (toBits binary64 a) (value→cross a (patternUnits (toBits binary64 a)) (2 ^ 1074) (own-pattern a f (from-zero a (k .above))))
   where
-    from-zero : (x : Float) → T (positive x) → T (fromZero x)
-    from-zero nan p = absurd p
-    from-zero (inf t) p = absurd p
-    from-zero (fin true m e) p = absurd p
-    from-zero (fin false m e) p = tt
-
-    own : HasValue a false (patternUnits (toBits binary64 a)) (2 ^ 1074)
-    own = subst (λ (z : Float). HasValue z false (patternUnits (toBits binary64 a)) (2 ^ 1074)) (ofBits-toBits binary64 a f) (pattern-value (toBits binary64 a) (bits-below a f (from-zero a (k .above))))
-
     low : (u : ℕ) → num a * 2 ^ 1074 ≡ u * den a → 2 ^ 954 ≤ u
     low u e = le-of-mul-le-mul-right {k = den a} (le-trans (mul-le-mul-left (2 ^ 954) (k .least)) (le-of-eq (turn (num a) (2 ^ 954) (2 ^ 120) ∙ e))) (den-pos a)
       where
@@ -89,7 +78,8 @@ bits a s f k = go (toBits binary64 a) (value→cross a (patternUnits (toBits bin
         turn : (d t u : ℕ) → d * t * u ≡ t * u * d
         turn d t u = omega arith
 
-    go : (b : ℕ) → num a * 2 ^ 1074 ≡ patternUnits b * den a → Dec (903 * H ≤ b) → Dec (b ≤ 1143 * H) → Bits a b
-    go b e (no l) u = absurd (not-le-of-lt (lt-of-lt-of-le (pattern-order b (903 * H) (lt-of-not-le l)) (le-of-eq (field-units 903 902 0 refl (lit≤ tt)))) (low (patternUnits b) e))
-    go b e (yes l) (no u) = absurd (not-le-of-lt (lt-of-le-of-lt (le-of-eq (sym (field-units 1143 1142 0 refl (lit≤ tt)))) (pattern-order (1143 * H) b (lt-of-not-le u))) (high (patternUnits b) e))
-    go b e (yes l) (yes u) = record { least = omega arith; most = omega arith; value = e ∙ ap (λ (z : ℕ). z * den a) (normal b (omega arith)) }
+    go : (b : ℕ) → num a * 2 ^ 1074 ≡ patternUnits b * den a → Bits a b
+    go b e =
+        let l : 903 * H ≤ b = pattern-at-most (903 * H) b (le-trans (le-of-eq (field-units 903 902 0 refl (lit≤ tt))) (low (patternUnits b) e)) in
+        let h : b ≤ 1143 * H = pattern-at-most b (1143 * H) (le-trans (high (patternUnits b) e) (le-of-eq (sym (field-units 1143 1142 0 refl (lit≤ tt))))) in
+        record { least = omega arith; most = omega arith; value = e ∙ ap (λ (z : ℕ). z * den a) (normal b (omega arith)) }

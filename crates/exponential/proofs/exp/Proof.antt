@@ -6,7 +6,7 @@ use lib.Dec.{T, leb}
 use lib.Ieee.{binary64, fits, ofBits, div, toBits}
 use Rattle.exponential.specs.Exp.{units, insideOf}
 use Rattle.exponential.proofs.Guess.{Nearest, limit}
-use Rattle.exponential.proofs.Branches.{answered, at-nan, above, below, Inside, inside, not-nan, bits-most, sign-bit, units-are, units-small, rest-small, inside-is}
+use Rattle.exponential.proofs.Branches.{answered, at-nan, above, below, Inside, inside, not-nan, bits-most, sign-is, units-are, units-small, rest-small, inside-is}
 use Rattle.exponential.proofs.exp.Statement.{statement}
 use Rattle.exponential.proofs.exp.Tie as tie
 
@@ -57,7 +57,7 @@ returns-4 c =
     let s = n .before .before .before .before .before in
     let i = within (n .before .before) in
     answered (s .args .x) (c .inside .result) (held s)
-    (c .inside .ensures ∙ ap (λ (u : ℕ). insideOf (leb (2 ^ 63) (toBits binary64 (s .args .x))) u (n .nearest .result)) (units-of (n .before)) ∙ ap (λ (b : Bool). insideOf b (units (s .args .x)) (n .nearest .result)) (sign-bit (s .args .x) i)
+    (c .inside .ensures ∙ ap (λ (u : ℕ). insideOf (leb (2 ^ 63) (toBits binary64 (s .args .x))) u (n .nearest .result)) (units-of (n .before)) ∙ ap (λ (b : Bool). insideOf b (units (s .args .x)) (n .nearest .result)) (sign-is (s .args .x) i)
     ∙ inside-is (s .args .x) i (n .nearest .result) (nearest-of n))
 
 pub exp-spec : {M : Type 1} → statement M

@@ -7,7 +7,8 @@ use Rattle.elementary.specs.declared.answer.Answer.{Answer}
 use Rattle.elementary.specs.declared.answer.Answer.the-variants.{Outside, Inside}
 use Rattle.elementary.specs.Exact.{lnInside, LnAnswer}
 use Rattle.logarithm.specs.Ln.{ofPattern, lnOf}
-use Rattle.logarithm.proofs.Inside.{inside, outside-below, outside-above, normal-above, number, bits-least, bits-most}
+use Rattle.elementary.proofs.Patterns.{not-nan}
+use Rattle.logarithm.proofs.Inside.{inside, outside-below, outside-above, normal-above, bits-least, bits-most}
 use Rattle.logarithm.proofs.Found.{meets}
 use Rattle.logarithm.proofs.ln.Statement.{statement}
 use Rattle.logarithm.proofs.ln.Tie as tie
@@ -25,7 +26,7 @@ within-T : (c : tie.Then2) → T (lnInside (c .before .before .args .x))
 within-T c = subst T (sym (within c)) tt
 
 float-to-bits-of-pattern : tie.Need-float-to-bits-of-pattern
-float-to-bits-of-pattern c = let x = c .before .before .args .x in number x (normal-above x (within-T c))
+float-to-bits-of-pattern c = let x = c .before .before .args .x in not-nan x (normal-above x (within-T c))
 
 of-pattern-requires : tie.Need-of-pattern-requires
 of-pattern-requires c κs =

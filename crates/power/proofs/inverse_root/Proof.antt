@@ -7,7 +7,8 @@ use borrow.Author.Tests.{not-true, not-false}
 use Rattle.elementary.specs.Exact.{powerInside}
 use Rattle.elementary.specs.declared.answer.Answer.the-variants.{Inside}
 use Rattle.power.specs.Power.{rootOfPattern, inverseRootOf}
-use Rattle.power.proofs.Base.{Base, base-of, no-nan-above}
+use Rattle.elementary.proofs.Patterns.{not-nan}
+use Rattle.power.proofs.Base.{Base, base-of}
 use Rattle.power.proofs.Patterns.{bits}
 use Rattle.power.proofs.Answers.{at-outside, at-one, elsewhere, root-meets}
 use Rattle.power.proofs.inverse_root.Statement.{statement}
@@ -40,7 +41,7 @@ returns-2 c =
     root-meets (a .a) (a .s) (held (c .before .before .before)) (at-one (a .a) (a .s) (rootOfPattern (toBits binary64 (a .a)) (a .s)) (arguments-inside (c .before)) (c .if2 .taken))
 
 float-to-bits-root-of : tie.Need-float-to-bits-root-of
-float-to-bits-root-of c = no-nan-above (c .before .before .before .args .a) (based c .above)
+float-to-bits-root-of c = not-nan (c .before .before .before .args .a) (based c .above)
 
 root-of-requires : tie.Need-root-of-requires
 root-of-requires c κs =
