@@ -7,7 +7,7 @@ ghost use Rattle.exponential.specs.Exp.{expOf};
 ghost use Rattle.logarithm.specs.Ln.{lnOf};
 ghost use Rattle.cosine.specs.Cos.{cosOf};
 ghost use Rattle.power.specs.Power.{inversePowerOf, inverseRootOf};
-ghost use Rattle.exports.specs.Number.{numberOf};
+ghost use Rattle.elementary.specs.Band.{numberOf};
 use elementary::answer::Answer;
 
 #[no_mangle]

@@ -2,7 +2,9 @@
 // factors of 1 + 2^-53, one for each rounding; 31 of them stay within 2^-48.
 ghost use mathlib.Core.Path.{_≡_};
 ghost use Prim.Native.Nat.{_≤_, _<_};
-ghost use Rattle.elementary.specs.Exact.{LnAnswer};
+ghost use lib.Dec.{T};
+ghost use Rattle.elementary.specs.Exact.{lnInside, LnAnswer};
+ghost use Rattle.elementary.specs.declared.answer.Answer.the-variants.{Inside};
 ghost use Rattle.logarithm.specs.Ln.{sumOf, nearOne, ofPattern, lnOf};
 use elementary::answer::Answer;
 
@@ -52,6 +54,15 @@ fn of_pattern(b: u64) -> f64
     a + near_one(m)
 }
 
+// The logarithm of an x that is known to be positive, normal and finite.
+pub fn ln_inside(x: f64) -> f64
+    requires { ⌜ T (lnInside x) ⌝ }
+    ensures { λ r. ⌜ Inside r ≡ lnOf x ⌝ }
+    ensures { λ r. ⌜ LnAnswer x (Inside r) ⌝ }
+{
+    of_pattern(f64::to_bits(x))
+}
+
 // The logarithm of a positive, normal and finite x; of any other it is outside.
 pub fn ln(x: f64) -> Answer
     ensures { λ r. ⌜ r ≡ lnOf x ⌝ }
@@ -59,7 +70,7 @@ pub fn ln(x: f64) -> Answer
 {
     if 2.2250738585072014e-308 <= x {
         if x < 1.0 / 0.0 {
-            return Answer::Inside(of_pattern(f64::to_bits(x)));
+            return Answer::Inside(ln_inside(x));
         }
     }
     Answer::Outside

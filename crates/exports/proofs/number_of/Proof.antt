@@ -1,6 +1,6 @@
 -- An answer as one float. Assumes nothing.
 use lib.Ieee.{ofBits, div}
-use Rattle.exports.specs.Number.{numberOf}
+use Rattle.elementary.specs.Band.{numberOf}
 use borrow.Author.Needs.{needs}
 use Rattle.exports.proofs.number_of.Statement.{statement}
 use Rattle.exports.proofs.number_of.Tie as tie

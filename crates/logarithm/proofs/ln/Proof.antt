@@ -25,30 +25,19 @@ within c = inside (c .before .before .args .x) (c .before .if1 .taken) (c .if2 .
 within-T : (c : tie.Then2) → T (lnInside (c .before .before .args .x))
 within-T c = subst T (sym (within c)) tt
 
-float-to-bits-of-pattern : tie.Need-float-to-bits-of-pattern
-float-to-bits-of-pattern c = let x = c .before .before .args .x in not-nan x (normal-above x (within-T c))
-
-of-pattern-requires : tie.Need-of-pattern-requires
-of-pattern-requires c κs =
-    let x = c .before .before .args .x in
-    (bits-least x (held (c .before .before)) (within-T c), bits-most x (held (c .before .before)) (within-T c))
+ln-inside-requires : tie.Need-ln-inside-requires
+ln-inside-requires c κs = within-T c
 
 -- the second clause follows from the first
 answered : (x : Float) (r : Answer) → T (fits binary64 x) → r ≡ lnOf x → (r ≡ lnOf x) × LnAnswer x r
 answered x r f e = (e, subst (LnAnswer x) (sym e) (meets x f))
-
-at-inside : (x : Float) → lnInside x ≡ true → Inside (ofPattern (toBits binary64 x)) ≡ lnOf x
-unfolding lnOf
-at-inside x e = rw e refl
 
 at-outside : (x : Float) → lnInside x ≡ false → Outside ≡ lnOf x
 unfolding lnOf
 at-outside x e = rw e refl
 
 returns : tie.Need-returns
-returns c =
-    let x = c .before .before .before .args .x in
-    answered x (Inside (c .of-pattern .result)) (held (c .before .before .before)) (ap Inside (c .of-pattern .ensures) ∙ at-inside x (within (c .before)))
+returns c = c .ln-inside .ensures
 
 returns-2 : tie.Need-returns-2
 unfolding ofBits div
@@ -58,4 +47,4 @@ returns-3 : tie.Need-returns-3
 returns-3 c = let x = c .before .args .x in answered x Outside (held (c .before)) (at-outside x (outside-below x (c .if1 .left)))
 
 pub ln-spec : {M : Type 1} → statement M
-ln-spec = tie.close (tie.spec float-to-bits-of-pattern of-pattern-requires returns returns-2 returns-3)
+ln-spec = tie.close (tie.spec ln-inside-requires returns returns-2 returns-3)

@@ -1,0 +1,3 @@
+pub mod Pulse
+pub mod Line
+pub mod Excitation

@@ -1,2 +1,0 @@
--- The definition that the contracts cite beside those of the functions called.
-pub mod Number
