@@ -7,7 +7,7 @@ use lib.Dec.{eqb}
 use lib.ListN.{length}
 use lib.Ieee.{Float}
 use Rattle.number.specs.F64.{_⊖_, _‼_}
-use Rattle.history.specs.Steps.{Step, dry, one}
+use Rattle.history.specs.Steps.{Step, dry, one, Run, steps}
 use Rattle.noise.specs.declared.Random.{Random}
 use Rattle.noise.specs.Noise.{noiseOf}
 use Rattle.excitation.specs.declared.pulse.Pulse.{Pulse}
@@ -23,8 +23,11 @@ pub record Excitation : Type 0 where
   pub random : Random
   pub line : List Float
 
+abbrev pub state : Pulse → Random → List Float → Excitation
+state pulse random line = record { pulse = pulse; random = random; line = line }
+
 abbrev pub excitation : Pulse → ℕ → ℕ → List Float → List Float → Excitation
-excitation pulse next used queue line = record { pulse = pulse; random = record { next = next; used = used; queue = queue }; line = line }
+excitation pulse next used queue line = state pulse (record { next = next; used = used; queue = queue }) line
 
 -- where a value of the noise can be had, what is made of it
 abbrev pub following : Step Random Float → (Float → Random → Step Excitation Float) → Step Excitation Float
@@ -33,10 +36,10 @@ following (one noise random) made = made noise random
 
 -- With nlpf 0 the sample is the pulse where the pitch is not 0, and no noise is used; else the noise.
 abbrev pub pulseAlone : Excitation → Step Excitation Float
-pulseAlone s = let p = pulseOf (s .pulse) in one (p .sample) (record { pulse = p .pulse; random = s .random; line = s .line })
+pulseAlone s = let p = pulseOf (s .pulse) in one (p .sample) (state (p .pulse) (s .random) (s .line))
 
 abbrev pub noiseAlone : Excitation → Float → Random → Step Excitation Float
-noiseAlone s noise random = one noise (record { pulse = s .pulse; random = random; line = s .line })
+noiseAlone s noise random = one noise (state (s .pulse) random (s .line))
 
 unfoldable pub plainStep : ℕ → Excitation → Step Excitation Float
 plainStep bound s = cond (voiced (s .pulse .pitch)) (pulseAlone s) (following (noiseOf bound (s .random)) (noiseAlone s))
@@ -54,7 +57,7 @@ pulseAfter pulse = cond (voiced (pulse .pitch)) (pulseOf pulse .pulse) pulse
 abbrev pub mixed : List Float → Excitation → Float → Random → Step Excitation Float
 mixed lpf s noise random =
     let line = mixedLine (s .pulse) noise lpf (s .line) in
-    one (line ‼ 0) (record { pulse = pulseAfter (s .pulse); random = random; line = shifted line })
+    one (line ‼ 0) (state (pulseAfter (s .pulse)) random (shifted line))
 
 unfoldable pub mixedStep : ℕ → List Float → Excitation → Step Excitation Float
 mixedStep bound lpf s = following (noiseOf bound (s .random)) (mixed lpf s)
@@ -62,6 +65,10 @@ mixedStep bound lpf s = following (noiseOf bound (s .random)) (mixed lpf s)
 -- ONE SAMPLE, with the taps lpf and a bound on the tries for a pair of noise values
 unfoldable pub stepOf : ℕ → List Float → Excitation → Step Excitation Float
 stepOf bound lpf s = cond (eqb (length (s .line)) 0) (plainStep bound s) (mixedStep bound lpf s)
+
+-- A STRETCH of n samples, or of as many as can be had
+abbrev pub stretchOf : ℕ → List Float → ℕ → Excitation → Run Excitation Float
+stretchOf bound lpf n s = steps (stepOf bound lpf) n s
 
 -- what `get` answers, beside the queue and the line that it leaves, as that step
 abbrev pub sampledOf : Sample → List Float → List Float → Step Excitation Float

@@ -1,9 +1,9 @@
 -- The pulse train, as in the Rust's `start`, `get` and `end`. Assumes nothing.
 use mathlib.Core.Path.{_≡_, refl}
-use mathlib.Core.Bool.{Bool, true, false, cond, not, _&&_}
+use mathlib.Core.Bool.{Bool, true, false, cond, _&&_}
 use Prim.Native.Nat.{ℕ}
 use lib.IntN.{pos}
-use lib.Ieee.{Float, binary64, ofInt, eq, le}
+use lib.Ieee.{Float, binary64, ofInt, ne, le}
 use Rattle.number.specs.F64.{_⊕_, _⊖_, _⊘_, 0f, 1f}
 use Rattle.root.specs.Root.{rootOf}
 use Rattle.excitation.specs.declared.pulse.Pulse.{Pulse}
@@ -18,10 +18,10 @@ periodOf (Voiced p) = p
 
 -- a pitch that is not 0: the NaN is not 0, and -0 is
 abbrev pub voiced : Float → Bool
-voiced p = not (eq p 0f)
+voiced p = ne p 0f
 
 abbrev pub train : Float → Float → Float → Float → Pulse
-train pitch counter increment end = record { pitch = pitch; counter = counter; increment = increment; end_pitch = end }
+train pitch counter increment end = record { pitch = pitch; counter = counter; increment = increment; end = end }
 
 -- at rest
 abbrev pub freshPulse : Pulse
@@ -41,9 +41,9 @@ pulseOf t =
     let counter = t .counter ⊕ 1f in
     let pitch = t .pitch ⊕ t .increment in
     cond (le (t .pitch) counter)
-    (record { sample = rootOf (t .pitch); pulse = train pitch (counter ⊖ t .pitch) (t .increment) (t .end_pitch) })
-    (record { sample = 0f; pulse = train pitch counter (t .increment) (t .end_pitch) })
+    (record { sample = rootOf (t .pitch); pulse = train pitch (counter ⊖ t .pitch) (t .increment) (t .end) })
+    (record { sample = 0f; pulse = train pitch counter (t .increment) (t .end) })
 
 -- a frame ends
 unfoldable pub endOf : Pulse → Pulse
-endOf t = train (t .end_pitch) (t .counter) (t .increment) (t .end_pitch)
+endOf t = train (t .end) (t .counter) (t .increment) (t .end)

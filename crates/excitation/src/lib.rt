@@ -6,9 +6,8 @@ ghost use lib.ListN.{length};
 ghost use lib.Ieee.{Float};
 ghost use Rattle.number.specs.F64.{_‼_};
 ghost use Rattle.number.specs.Lists.{over};
-ghost use Rattle.history.specs.Steps.{steps};
 ghost use Rattle.noise.specs.Draw.{tries};
-ghost use Rattle.excitation.specs.Excitation.{excitation, mixedLine, pulseAfter, plainStep, mixedStep, stepOf, sampledOf};
+ghost use Rattle.excitation.specs.Excitation.{state, excitation, mixedLine, pulseAfter, plainStep, mixedStep, stepOf, stretchOf, sampledOf};
 ghost use Rattle.excitation.specs.Line.{shifted};
 ghost use Rattle.excitation.specs.declared.Sample.the-variants.{Dry};
 
@@ -28,7 +27,7 @@ pub enum Sample {
 
 // What a stretch came to: how many samples were made, and the pulse train and the noise after the last of them.
 #[repr(C)]
-pub struct Stretch {
+pub struct Filled {
     pub made: usize,
     pub pulse: Pulse,
     pub random: Random,
@@ -39,10 +38,12 @@ fn get_plain(pulse: Pulse, next: u64, used: usize, queue: &mut [f64; 64]) -> Sam
     requires { ⌜ length (now queue) ≡ 64 ⌝ }
     ensures { λ r. ⌜ ((line : List Float) → sampledOf r (now (queue .exit)) line ≡ plainStep tries (excitation pulse next used (now (queue .entry)) line)) ⌝ }
     ensures { λ r. ⌜ (r ≡ Dry → now (queue .exit) ≡ now (queue .entry)) ⌝ }
+    ensures { λ _. ⌜ length (now (queue .exit)) ≡ 64 ⌝ }
 {
     if pulse.pitch != 0.0 {
         let p = pulse.next();
-        return Sample::Made(p.sample, p.pulse, next, used);
+        let after = p.pulse;
+        return Sample::Made(p.sample, after, next, used);
     }
     let taken = noise::nrandom(next, used, queue);
     match taken {
@@ -58,43 +59,61 @@ fn mix(pulse: Pulse, noise: f64, line: &mut [f64], lpf: &[f64]) -> Pulsed
     ensures { λ _. ⌜ now (line .exit) ≡ shifted (mixedLine pulse noise (now (lpf .entry)) (now (line .entry))) ⌝ }
 {
     line::add_noise(line, noise);
-    if pulse.pitch == 0.0 {
+    if pulse.pitch != 0.0 {
+        let p = pulse.next();
+        let after = p.pulse;
+        line::add_pulse(line, lpf, p.sample - noise);
         return Pulsed {
             sample: line::shift(line),
-            pulse,
+            pulse: after,
         };
     }
-    let p = pulse.next();
-    line::add_pulse(line, lpf, p.sample - noise);
     Pulsed {
         sample: line::shift(line),
-        pulse: p.pulse,
+        pulse,
     }
 }
 
 // A sample with nlpf 1 or more.
-fn get_mixed(pulse: Pulse, next: u64, used: usize, queue: &mut [f64; 64], line: &mut [f64], lpf: &[f64]) -> Sample
+fn get_mixed(
+    pulse: Pulse,
+    next: u64,
+    used: usize,
+    queue: &mut [f64; 64],
+    line: &mut [f64],
+    lpf: &[f64],
+) -> Sample
     requires { ⌜ (length (now queue) ≡ 64) × (0 < length (now line)) × (length (now lpf) ≡ length (now line)) ⌝ }
     ensures { λ r. ⌜ sampledOf r (now (queue .exit)) (now (line .exit))
         ≡ mixedStep tries (now (lpf .entry)) (excitation pulse next used (now (queue .entry)) (now (line .entry))) ⌝ }
     ensures { λ r. ⌜ (r ≡ Dry → (now (queue .exit) ≡ now (queue .entry)) × (now (line .exit) ≡ now (line .entry))) ⌝ }
+    ensures { λ _. ⌜ length (now (queue .exit)) ≡ 64 ⌝ }
 {
     let taken = noise::nrandom(next, used, queue);
     match taken {
         Taken::Value(noise, next, used) => {
             let p = mix(pulse, noise, line, lpf);
-            Sample::Made(p.sample, p.pulse, next, used)
+            let after = p.pulse;
+            Sample::Made(p.sample, after, next, used)
         }
         Taken::Dry => Sample::Dry,
     }
 }
 
 // One sample.
-fn get(pulse: Pulse, next: u64, used: usize, queue: &mut [f64; 64], line: &mut [f64], lpf: &[f64]) -> Sample
+fn get(
+    pulse: Pulse,
+    next: u64,
+    used: usize,
+    queue: &mut [f64; 64],
+    line: &mut [f64],
+    lpf: &[f64],
+) -> Sample
     requires { ⌜ (length (now queue) ≡ 64) × (length (now lpf) ≡ length (now line)) ⌝ }
     ensures { λ r. ⌜ sampledOf r (now (queue .exit)) (now (line .exit))
         ≡ stepOf tries (now (lpf .entry)) (excitation pulse next used (now (queue .entry)) (now (line .entry))) ⌝ }
     ensures { λ r. ⌜ (r ≡ Dry → (now (queue .exit) ≡ now (queue .entry)) × (now (line .exit) ≡ now (line .entry))) ⌝ }
+    ensures { λ _. ⌜ length (now (queue .exit)) ≡ 64 ⌝ }
 {
     if line.len() == 0 {
         get_plain(pulse, next, used, queue)
@@ -104,12 +123,19 @@ fn get(pulse: Pulse, next: u64, used: usize, queue: &mut [f64; 64], line: &mut [
 }
 
 // Fills `out` with as many samples as can be had. The line has as many taps as lpf.
-pub fn stretch(pulse: Pulse, random: Random, line: &mut [f64], lpf: &[f64], out: &mut [f64]) -> Stretch
+pub fn stretch(
+    pulse: Pulse,
+    random: Random,
+    line: &mut [f64],
+    lpf: &[f64],
+    out: &mut [f64],
+) -> Filled
     requires { ⌜ length (now lpf) ≡ length (now line) ⌝ }
-    ensures { λ r. ⌜ record { pulse = r .pulse; random = r .random; line = now (line .exit) }
-        ≡ steps (stepOf tries (now (lpf .entry))) (length (now (out .entry))) (record { pulse = pulse; random = random; line = now (line .entry) }) .state ⌝ }
-    ensures { λ r. ⌜ r .made ≡ length (steps (stepOf tries (now (lpf .entry))) (length (now (out .entry))) (record { pulse = pulse; random = random; line = now (line .entry) }) .made) ⌝ }
-    ensures { λ r. ⌜ now (out .exit) ≡ over (steps (stepOf tries (now (lpf .entry))) (length (now (out .entry))) (record { pulse = pulse; random = random; line = now (line .entry) }) .made) (r .made) (now (out .entry)) ⌝ }
+    ensures { λ r. ⌜ state (r .pulse) (r .random) (now (line .exit))
+        ≡ stretchOf tries (now (lpf .entry)) (length (now (out .entry))) (state pulse random (now (line .entry))) .state ⌝ }
+    ensures { λ r. ⌜ r .made ≡ length (stretchOf tries (now (lpf .entry)) (length (now (out .entry))) (state pulse random (now (line .entry))) .made) ⌝ }
+    ensures { λ r. ⌜ now (out .exit)
+        ≡ over (stretchOf tries (now (lpf .entry)) (length (now (out .entry))) (state pulse random (now (line .entry))) .made) (r .made) (now (out .entry)) ⌝ }
 {
     let mut now_pulse = pulse;
     let mut next = random.next;
@@ -132,7 +158,7 @@ pub fn stretch(pulse: Pulse, random: Random, line: &mut [f64], lpf: &[f64], out:
             }
         }
     }
-    Stretch {
+    Filled {
         made: i,
         pulse: now_pulse,
         random: Random { next, used, queue },

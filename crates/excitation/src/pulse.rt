@@ -10,7 +10,7 @@ pub struct Pulse {
     pub pitch: f64,
     pub counter: f64,
     pub increment: f64,
-    pub end_pitch: f64,
+    pub end: f64,
 }
 
 // The pitch of a frame: none, or a period in samples.
@@ -44,7 +44,7 @@ impl Pulse {
             pitch: 0.0,
             counter: 0.0,
             increment: 0.0,
-            end_pitch: 0.0,
+            end: 0.0,
         }
     }
 
@@ -53,20 +53,20 @@ impl Pulse {
         requires { ⌜ fperiod ≤ 2 ^ 53 ⌝ }
         ensures { λ r. ⌜ r ≡ startOf self pitch fperiod ⌝ }
     {
-        let end_pitch = period(pitch);
-        if self.pitch != 0.0 && end_pitch != 0.0 {
+        let end = period(pitch);
+        if self.pitch != 0.0 && end != 0.0 {
             return Self {
                 pitch: self.pitch,
                 counter: self.counter,
-                increment: (end_pitch - self.pitch) / fperiod as f64,
-                end_pitch,
+                increment: (end - self.pitch) / fperiod as f64,
+                end,
             };
         }
         Self {
-            pitch: end_pitch,
-            counter: end_pitch,
+            pitch: end,
+            counter: end,
             increment: 0.0,
-            end_pitch,
+            end,
         }
     }
 
@@ -92,7 +92,7 @@ impl Pulse {
         ensures { λ r. ⌜ r ≡ endOf self ⌝ }
     {
         let mut pulse = self;
-        pulse.pitch = self.end_pitch;
+        pulse.pitch = self.end;
         pulse
     }
 }

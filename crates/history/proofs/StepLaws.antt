@@ -1,12 +1,14 @@
 -- Steps may be cut anywhere, and a loop that takes them one by one comes to what they come to. Assumes nothing.
-use mathlib.Core.Path.{_≡_, refl, sym, ap, _∙_}
+use mathlib.Core.Path.{_≡_, refl, sym, ap, _∙_, subst}
 use mathlib.Core.List.{List, [], _∷_, _++_, append-assoc, append-nil}
 use mathlib.Core.Bool.{Bool, true, false, false≢true}
 use Prim.Native.Nat.{ℕ, zero, suc, _+_, _-_, _<_, _≤_}
 use native.Mathlib.Nat.{zero-add, suc-add}
 use native.Mathlib.Numerals.{add-one}
 use native.Mathlib.Omega.{arith}
-use lib.ListN.{length, length-append}
+use lib.ListN.{length, set}
+use Rattle.number.specs.Lists.{over}
+use Rattle.number.proofs.Lists.{over-more}
 use Rattle.history.specs.Steps.{Step, dry, one, Run, running, stopped, joined, onward, steps, continued}
 
 module _ {State Sample : Type 0} (step : State → Step State Sample) where
@@ -64,3 +66,43 @@ module _ {State Sample : Type 0} (step : State → Step State Sample) where
   unfolding steps
   steps-short zero s e = absurd (false≢true e)
   steps-short (suc n) s e = short-one n (steps-short n) (step s) s e
+
+  -- ---- a loop that fills a buffer with the samples, one a turn
+
+  -- after i turns from s₀ it has come to s, and the samples made stand in `out`, over what stood there
+  pub record Reached (i : ℕ) (s₀ s : State) (out before : List Sample) : Type 0 where
+    pub run : steps step i s₀ ≡ running (steps step i s₀ .made) s
+    pub stand : out ≡ over (steps step i s₀ .made) i before
+
+  reached-count : (i : ℕ) (s₀ s : State) → steps step i s₀ ≡ running (steps step i s₀ .made) s → length (steps step i s₀ .made) ≡ i
+  reached-count i s₀ s e = steps-full i s₀ (ap (λ (r : Run State Sample). r .isDry) e)
+
+  pub reached-none : (s : State) (out : List Sample) → Reached 0 s s out out
+  unfolding steps
+  reached-none s out = record { run = refl; stand = refl }
+
+  pub reached-more : (i : ℕ) (s₀ s t : State) (out before : List Sample) (x : Sample)
+      → Reached i s₀ s out before → step s ≡ one x t → i < length before → Reached (i + 1) s₀ t (set out i x) before
+  reached-more i s₀ s t out before x r h l =
+      let xs = steps step i s₀ .made in
+      let e = turn-one i s₀ s xs x t (r .run) h in
+      let made : steps step (i + 1) s₀ .made ≡ xs ++ (x ∷ []) = ap (λ (q : Run State Sample). q .made) e in
+      record {
+        run = e ∙ ap (λ (ys : List Sample). running ys t) (sym made);
+        stand = ap (λ (o : List Sample). set o i x) (r .stand) ∙ over-more xs before i x (reached-count i s₀ s (r .run)) l ∙ ap (λ (ys : List Sample). over ys (i + 1) before) (sym made);
+      }
+
+  -- what such a loop answers for n steps: the state after them, how many samples there are, and the buffer
+  abbrev pub Filled : ℕ → State → State → ℕ → List Sample → List Sample → Type 0
+  Filled n s₀ s i out before = (s ≡ steps step n s₀ .state) × (i ≡ length (steps step n s₀ .made)) × (out ≡ over (steps step n s₀ .made) i before)
+
+  pub reached-end : (i n : ℕ) (s₀ s : State) (out before : List Sample) → Reached i s₀ s out before → i ≡ n → Filled n s₀ s i out before
+  reached-end i n s₀ s out before r e =
+      let all : Filled i s₀ s i out before = (sym (ap (λ (q : Run State Sample). q .state) (r .run)), sym (reached-count i s₀ s (r .run)), r .stand) in
+      subst (λ (m : ℕ). Filled m s₀ s i out before) e all
+
+  pub reached-dry : (i n : ℕ) (s₀ s : State) (out before : List Sample) → Reached i s₀ s out before → i < n → step s ≡ dry → Filled n s₀ s i out before
+  reached-dry i n s₀ s out before r l h =
+      let e = turn-dry i n s₀ s (steps step i s₀ .made) l (r .run) h in
+      let made : steps step n s₀ .made ≡ steps step i s₀ .made = ap (λ (q : Run State Sample). q .made) e in
+      (sym (ap (λ (q : Run State Sample). q .state) e), rw made (sym (reached-count i s₀ s (r .run))), rw made (r .stand))

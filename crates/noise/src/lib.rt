@@ -9,9 +9,9 @@ ghost use Rattle.noise.specs.declared.Taken.the-variants as taken;
 mod draw;
 mod pair;
 
+use crate::pair::Found;
 use crate::pair::find_pair;
 use crate::pair::multiplier;
-use crate::pair::Found;
 
 // The state of the noise: `next` of the draws, and 64 values, of which `used` are taken.
 #[repr(C)]

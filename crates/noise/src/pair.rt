@@ -4,8 +4,8 @@ ghost use lib.Dec.{T};
 ghost use Rattle.elementary.specs.Exact.{lnInside};
 ghost use Rattle.noise.specs.Draw.{tries};
 ghost use Rattle.noise.specs.Noise.{foundOf, multiplierOf};
-use crate::draw::attempt;
 use crate::draw::Try;
+use crate::draw::attempt;
 use number::range::strictly_within;
 
 // The first accepted try, or dry.

@@ -1,0 +1,13 @@
+-- `end` meets its contract. Assumes nothing.
+use mathlib.Core.Path.{refl}
+use Rattle.excitation.specs.Pulse.{endOf}
+use borrow.Author.Needs.{needs}
+use Rattle.excitation.proofs.pulse.Pulse.end.Statement.{statement}
+use Rattle.excitation.proofs.pulse.Pulse.end.Tie as tie
+
+returns : tie.Need-returns
+unfolding endOf
+returns c = refl
+
+pub end-spec : {M : Type 1} → statement M
+end-spec = tie.close (tie.spec returns)
