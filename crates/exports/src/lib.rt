@@ -8,7 +8,16 @@ ghost use Rattle.logarithm.specs.Ln.{lnOf};
 ghost use Rattle.cosine.specs.Cos.{cosOf};
 ghost use Rattle.power.specs.Power.{inversePowerOf, inverseRootOf};
 ghost use Rattle.elementary.specs.Band.{numberOf};
+ghost use lib.ListN.{length};
+ghost use Rattle.number.specs.Lists.{over};
+ghost use Rattle.excitation.specs.Pulse.{startOf, endOf};
+ghost use Rattle.excitation.specs.Excitation.{state};
+ghost use Rattle.exports.specs.Exported.{pitchOf, countOf, runOf};
 use elementary::answer::Answer;
+use excitation::pulse::Pitch;
+use excitation::pulse::Pulse;
+use excitation::Filled;
+use noise::Random;
 
 #[no_mangle]
 pub extern "C" fn kipawnore_sqrt(x: f64) -> f64
@@ -88,4 +97,59 @@ pub extern "C" fn kipawnore_inverse_root(a: f64, s: u64) -> f64
     ensures { λ r. ⌜ r ≡ numberOf (inverseRootOf a s) ⌝ }
 {
     number_of(power::inverse_root(a, s))
+}
+
+// The pitch of a frame, from a flag and a period.
+fn pitch(voiced: bool, period: f64) -> Pitch
+    ensures { λ r. ⌜ r ≡ pitchOf voiced period ⌝ }
+{
+    if voiced {
+        return Pitch::Voiced(period);
+    }
+    Pitch::Unvoiced
+}
+
+// fperiod, or 2^53 where it is more.
+fn count(fperiod: u64) -> u64
+    ensures { λ r. ⌜ r ≡ countOf fperiod ⌝ }
+{
+    if fperiod < 9007199254740992 {
+        return fperiod;
+    }
+    9007199254740992
+}
+
+// A frame of fperiod samples begins: unvoiced, or voiced with a period in samples.
+#[no_mangle]
+pub extern "C" fn kipawnore_start(pulse: Pulse, voiced: bool, period: f64, fperiod: u64) -> Pulse
+    ensures { λ r. ⌜ r ≡ startOf pulse (pitchOf voiced period) (countOf fperiod) ⌝ }
+{
+    pulse.start(pitch(voiced, period), count(fperiod))
+}
+
+// A frame ends.
+#[no_mangle]
+pub extern "C" fn kipawnore_end(pulse: Pulse) -> Pulse
+    ensures { λ r. ⌜ r ≡ endOf pulse ⌝ }
+{
+    pulse.end()
+}
+
+// Fills `out` with as many samples of the excitation as can be had, and moves the line on.
+#[no_mangle]
+pub extern "C" fn kipawnore_stretch(pulse: Pulse, random: Random, line: &mut [f64], lpf: &[f64], out: &mut [f64]) -> Filled
+    ensures { λ r. ⌜ state (r .pulse) (r .random) (now (line .exit))
+        ≡ runOf pulse random (now (line .entry)) (now (lpf .entry)) (length (now (out .entry))) .state ⌝ }
+    ensures { λ r. ⌜ r .made ≡ length (runOf pulse random (now (line .entry)) (now (lpf .entry)) (length (now (out .entry))) .made) ⌝ }
+    ensures { λ r. ⌜ now (out .exit)
+        ≡ over (runOf pulse random (now (line .entry)) (now (lpf .entry)) (length (now (out .entry))) .made) (r .made) (now (out .entry)) ⌝ }
+{
+    if lpf.len() == line.len() {
+        return excitation::stretch(pulse, random, line, lpf, out);
+    }
+    Filled {
+        made: 0,
+        pulse,
+        random,
+    }
 }
