@@ -1,7 +1,8 @@
 // Reaches libexports.a on a machine whose processor cannot run it: an x86-64 program without a C
 // library, run under an emulator. It reads requests on standard input and answers each on standard
 // output: operation, count, then count inputs (pairs for multiply, add and the powers); count answers.
-// Every word is 8 bytes, little-endian. The driver's side is src/ours.rs.
+// A stretch, a start and an end of the excitation come one a request: the count is that of the words.
+// Every word is 8 bytes, little-endian. The driver's side is src/bridge.rs.
 #include <stddef.h>
 #include <stdint.h>
 
@@ -16,8 +17,17 @@ double kipawnore_cos(double x);
 double kipawnore_inverse_power(double a, uint64_t s);
 double kipawnore_inverse_root(double a, uint64_t s);
 
-enum { SQRT, MULTIPLY, ADD, FLOAT_OF, BITS_OF, ROUND_TRIP, EXP, LN, COS, INVERSE_POWER, INVERSE_ROOT, OPERATIONS };
-enum { READ = 0, WRITE = 1, EXIT = 60, MOST = 1 << 16 };
+void *memcpy(void *to, const void *from, size_t size);
+
+typedef struct { double pitch, counter, increment, end_pitch; } Pulse;
+typedef struct { uint64_t next; size_t used; double queue[64]; } Random;
+typedef struct { size_t made; Pulse pulse; Random random; } Stretch;
+Stretch kipawnore_stretch(Pulse pulse, Random random, double *line, size_t nline, const double *lpf, size_t nlpf, double *out, size_t nout);
+Pulse kipawnore_start(Pulse pulse, _Bool voiced, double period, uint64_t fperiod);
+Pulse kipawnore_end(Pulse pulse);
+
+enum { SQRT, MULTIPLY, ADD, FLOAT_OF, BITS_OF, ROUND_TRIP, EXP, LN, COS, INVERSE_POWER, INVERSE_ROOT, STRETCH, START, END, OPERATIONS };
+enum { READ = 0, WRITE = 1, EXIT = 60, MOST = 1 << 16, TAPS = 64, STATE_WORDS = (sizeof(Pulse) + sizeof(Random)) / 8 };
 
 static uint64_t inputs[2 * MOST];
 static uint64_t answers[MOST];
@@ -79,15 +89,50 @@ static uint64_t answer(uint64_t operation, const uint64_t *input) {
     }
 }
 
+// The inputs: nlpf, count, pulse, random, line, lpf. The answers: made, count samples, pulse, random, line.
+static size_t stretch(void) {
+    static double line[TAPS], lpf[TAPS], samples[MOST / 2];
+    static struct { uint64_t nlpf, count; Pulse pulse; Random random; } asked;
+    memcpy(&asked, inputs, sizeof asked);
+    size_t nlpf = asked.nlpf, count = asked.count;
+    if (nlpf > TAPS || count > MOST / 2) leave(3);
+    memcpy(line, inputs + 2 + STATE_WORDS, nlpf * 8);
+    memcpy(lpf, inputs + 2 + STATE_WORDS + nlpf, nlpf * 8);
+    Stretch after = kipawnore_stretch(asked.pulse, asked.random, line, nlpf, lpf, nlpf, samples, count);
+    answers[0] = after.made;
+    memcpy(answers + 1, samples, count * 8);
+    memcpy(answers + 1 + count, (char *)&after + offsetof(Stretch, pulse), STATE_WORDS * 8);
+    memcpy(answers + 1 + count + STATE_WORDS, line, nlpf * 8);
+    return 1 + count + STATE_WORDS + nlpf;
+}
+
+// The inputs: a pulse, then for a start voiced, period, fperiod. The answer is a pulse.
+static size_t start_or_end(uint64_t operation) {
+    Pulse pulse;
+    memcpy(&pulse, inputs, sizeof pulse);
+    pulse = operation == START ? kipawnore_start(pulse, inputs[4] != 0, as_double(inputs[5]), inputs[6]) : kipawnore_end(pulse);
+    memcpy(answers, &pulse, sizeof pulse);
+    return sizeof pulse / 8;
+}
+
+// Answers a request whose inputs are read; gives the number of answers.
+static size_t answer_all(uint64_t operation, size_t count) {
+    switch (operation) {
+        case STRETCH: return stretch();
+        case START: case END: return start_or_end(operation);
+    }
+    size_t words = arity(operation);
+    for (size_t i = 0; i < count; i++) answers[i] = answer(operation, inputs + i * words);
+    return count;
+}
+
 void serve(void) {
     uint64_t request[2];
     while (transfer(READ, request, sizeof request)) {
         if (request[0] >= OPERATIONS || request[1] > MOST) leave(3);
         size_t count = request[1];
-        size_t words = arity(request[0]);
-        if (count > 0 && !transfer(READ, inputs, count * words * 8)) leave(2);
-        for (size_t i = 0; i < count; i++) answers[i] = answer(request[0], inputs + i * words);
-        transfer(WRITE, answers, count * 8);
+        if (count > 0 && !transfer(READ, inputs, count * arity(request[0]) * 8)) leave(2);
+        transfer(WRITE, answers, answer_all(request[0], count) * 8);
     }
     leave(0);
 }

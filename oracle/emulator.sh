@@ -15,5 +15,5 @@ find_emulator() {
 # Links libexports.a with the bridge, a small x86-64 program that the driver talks to.
 build_bridge() {
     "${ORACLE_CC:-clang}" --target=x86_64-linux-gnu -fuse-ld=lld -O2 -Wall -Wextra -Werror -ffreestanding -fno-stack-protector \
-        -nostdlib -static -o "$work/bridge" "$here/bridge.c" "$1/libexports.a" || fail "the bridge does not build"
+        -nostdlib -static -o "$work/bridge" "$here/bridge.c" "$here/memory.c" "$1/libexports.a" || fail "the bridge does not build"
 }

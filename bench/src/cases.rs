@@ -1,7 +1,8 @@
 //! The cases: each function over inputs as they are used.
 
+use crate::excitations;
 use crate::generator::Generator;
-use crate::inputs;
+use crate::inputs::{self, COUNT};
 use crate::variants::{self, Ways};
 use std::f64::consts::PI;
 
@@ -11,6 +12,8 @@ pub struct Case {
     pub set: String,
     pub left: Vec<u64>,
     pub right: Vec<u64>,
+    /// How many answers a pass makes.
+    pub count: usize,
     pub variants: Ways,
     /// How many floats an answer of ours may be away from Rust's.
     pub steps: u64,
@@ -33,9 +36,14 @@ pub fn all(random: &mut Generator) -> Vec<Case> {
         set: "any words".to_string(),
         left: inputs::any_words(random),
         right: inputs::any_words(random),
+        count: COUNT,
         variants: variants::WRAPPING_MUL,
         steps: EXACT,
     });
+    // Elsewhere structs go by value in another way than in our library's module.
+    if cfg!(target_arch = "x86_64") {
+        cases.extend(excitations::all(random));
+    }
     cases
 }
 
@@ -52,6 +60,7 @@ fn of_floats(
         set: set.to_string(),
         left,
         right: Vec::new(),
+        count: COUNT,
         variants,
         steps,
     }
@@ -98,6 +107,7 @@ fn powers(random: &mut Generator) -> Vec<Case> {
             set: format!("[0.1, 10], s = {stage}"),
             left: bases.clone(),
             right: vec![stage],
+            count: COUNT,
             variants,
             steps,
         })

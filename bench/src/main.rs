@@ -1,6 +1,10 @@
 //! The benchmark of bench/run: our functions, called through the static library, beside Rust's.
 
 mod cases;
+mod excitation;
+mod excitation_calls;
+mod excitation_structs;
+mod excitations;
 mod generator;
 mod inputs;
 mod variants;
@@ -18,7 +22,7 @@ const ROUNDS: usize = 31;
 /// A stretch is long against the clock's step and short against what else the machine does.
 const STRETCH: Duration = Duration::from_millis(3);
 
-/// Best and median ns a call.
+/// Best and median ns a call, or a sample of the excitation.
 struct Times {
     best: f64,
     median: f64,
@@ -27,12 +31,10 @@ struct Times {
 fn main() -> ExitCode {
     let least = STRETCH.as_millis();
     println!(
-        "ns a call; {ROUNDS} interleaved rounds, each way at least {least} ms a round over {COUNT} independent inputs"
+        "ns a call (excitation: a sample); {ROUNDS} interleaved rounds, each way at least {least} ms a round over {COUNT} independent inputs"
     );
     println!("ours: called through the static library libexports.a");
-    println!(
-        "Rust, called: through an #[inline(never)] extern \"C\" function; Rust, inlined: the plain loop"
-    );
+    println!("Rust, called: through an #[inline(never)] function; Rust, inlined: the plain loop");
     println!("noise: median/best; ratios: ours/Rust, by best and by median\n");
     println!(
         "{:13} {:26} {:14} {:>8} {:>8} {:>7} {:>11} {:>13}",
@@ -56,7 +58,7 @@ fn ways_agree(case: &Case) -> bool {
     let sums = case.variants.map(|way| (way.pass)(&case.left, &case.right));
     sums.iter().all(|sum| {
         let away = sum.wrapping_sub(sums[0]) as i64;
-        away.unsigned_abs() <= COUNT as u64 * case.steps
+        away.unsigned_abs() <= case.count as u64 * case.steps
     })
 }
 
@@ -86,8 +88,8 @@ fn measure(case: &Case) -> Vec<Times> {
     let mut rounds: [Vec<f64>; 3] = Default::default();
     for _ in 0..ROUNDS {
         for (index, way) in case.variants.into_iter().enumerate() {
-            let calls = f64::from(passes[index]) * COUNT as f64;
-            rounds[index].push(time(way, case, passes[index]).as_nanos() as f64 / calls);
+            let answers = f64::from(passes[index]) * case.count as f64;
+            rounds[index].push(time(way, case, passes[index]).as_nanos() as f64 / answers);
         }
     }
     rounds.into_iter().map(summary).collect()

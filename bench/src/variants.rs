@@ -3,7 +3,7 @@
 use std::hint::black_box;
 
 /// One way: its name, and a pass over the inputs. The second words are the other factors of a
-/// product, or one word, the s of a power; the other functions read none of them.
+/// product, or one word, the s of a power or the excitation's period; the other functions read none.
 #[derive(Clone, Copy)]
 pub struct Variant {
     pub name: &'static str,

@@ -35,7 +35,8 @@ pub(crate) fn exp(x: f64) -> f64 {
     ask(Function::Exp, x)
 }
 
-pub(crate) fn ln(x: f64) -> f64 {
+/// Public: the driver takes the excitation's file into a module of its own.
+pub fn ln(x: f64) -> f64 {
     counted(ask(Function::Ln, x))
 }
 

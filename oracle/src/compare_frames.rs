@@ -8,14 +8,16 @@ use crate::generated_frames;
 use crate::ours::Ours;
 use crate::sides::{Samples, Sides};
 use routed::routes::Answerer;
+use std::cell::RefCell;
 use std::path::Path;
+use std::rc::Rc;
 
 /// The announcement, where there is a folder of it, then the generated frames. True where the routed
 /// copy with Rust's functions is the pinned Rust, ours lead nowhere else, and the right frames are refused.
-pub fn run(ours: Ours, seed: u64, folder: Option<&Path>) -> Result<bool, String> {
+pub fn run(ours: &Rc<RefCell<Ours>>, seed: u64, folder: Option<&Path>) -> Result<bool, String> {
     let mut sets = folder.map_or(Ok(Vec::new()), announcement)?;
     sets.extend(generated_frames::sets(seed));
-    let (ours, rusts) = (our_own(ours), rusts_own());
+    let (ours, rusts) = (our_own(Rc::clone(ours)), rusts_own());
     print_heading();
     let mut good = true;
     for set in &sets {

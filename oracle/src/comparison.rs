@@ -5,8 +5,8 @@ use crate::ours::{BLOCK, Operation, Ours};
 use std::hint::black_box;
 use std::time::Instant;
 
-/// How many differing inputs are shown.
-const SHOWN: u64 = 5;
+/// How many differences are shown.
+pub const SHOWN: u64 = 5;
 
 /// The pattern that stands for every NaN.
 pub const NAN: u64 = 0x7FF8_0000_0000_0000;

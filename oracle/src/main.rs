@@ -1,27 +1,48 @@
 //! The driver of oracle/run: compares our functions with Rust's, one file a comparison, or prints
-//! the square root's fixed list. A comparison that needs private functions of the pinned Rust may
+//! the fixed lists. A comparison that needs private functions of the pinned Rust may
 //! `include!("vocoder/FILE.rs")` into a module of its own: the copies stand beside this file.
 
 mod answerers;
+mod bridge;
 mod check_pinned;
 mod compare_bits;
+mod compare_excitation;
+mod compare_excitation_states;
 mod compare_frames;
 mod compare_sqrt;
 mod compare_wrapping;
 mod comparison;
+#[cfg(feature = "linked")]
+mod excitation_calls;
+mod excitation_sides;
+mod excitation_structs;
+mod excitation_tally;
+mod excitation_values;
+mod excitations;
 mod float_patterns;
 mod frames;
 mod generated_frames;
 mod generator;
+mod hex_words;
+#[cfg(feature = "linked")]
+mod linked;
 mod ours;
 mod roots;
+mod rusts_excitation;
 mod sides;
+mod stretches;
 
-use ours::{Bridge, Ours};
+use bridge::Bridge;
+use ours::Ours;
+use routed::routes;
+use std::cell::RefCell;
 use std::path::PathBuf;
 use std::process::ExitCode;
+use std::rc::Rc;
 
 const SEED: u64 = 1;
+const USAGE: &str = "usage: oracle patterns | roots | excitations, or, with our functions linked in or behind a bridge, \
+                     oracle compare|frames|stretches [EMULATOR BRIDGE]";
 
 fn main() -> ExitCode {
     let words: Vec<String> = std::env::args().skip(1).collect();
@@ -32,18 +53,16 @@ fn main() -> ExitCode {
             Ok(true)
         }
         ["roots"] => roots::print_roots().map(|()| true),
-        [what @ ("compare" | "frames")] if cfg!(feature = "linked") => {
-            compare(what, Ours::Linked, "linked into the driver")
+        ["excitations"] => {
+            excitations::print_requests();
+            Ok(true)
         }
-        [what @ ("compare" | "frames"), emulator, bridge] => Bridge::start(emulator, bridge)
+        #[cfg(feature = "linked")]
+        [what] => with(what, Ours::Linked, "linked into the driver"),
+        [what, emulator, bridge] => Bridge::open(emulator, bridge)
             .map_err(|error| format!("the bridge does not start: {error}"))
-            .and_then(|bridge| {
-                compare(what, Ours::Bridge(bridge), "x86-64 code under an emulator")
-            }),
-        _ => Err(
-            "usage: oracle patterns | roots | compare [EMULATOR BRIDGE] | frames [EMULATOR BRIDGE]"
-                .to_string(),
-        ),
+            .and_then(|bridge| with(what, Ours::Bridge(bridge), "x86-64 code under an emulator")),
+        _ => Err(USAGE.to_string()),
     };
     match done {
         Ok(true) => ExitCode::SUCCESS,
@@ -71,9 +90,19 @@ fn announcement_folder() -> Option<PathBuf> {
     folder.join("announcement.lf0").is_file().then_some(folder)
 }
 
+/// Does what is asked with our functions within reach.
+fn with(what: &str, ours: Ours, reached: &str) -> Result<bool, String> {
+    let ours = Rc::new(RefCell::new(ours));
+    match what {
+        "compare" | "frames" => compare(what, &ours, reached),
+        "stretches" => excitations::print_outcomes(ours).map(|()| true),
+        _ => Err(USAGE.to_string()),
+    }
+}
+
 /// Runs every comparison, also after one that found a difference, or that of the frames alone. True
 /// where all were as they should be.
-fn compare(what: &str, mut ours: Ours, reached: &str) -> Result<bool, String> {
+fn compare(what: &str, ours: &Rc<RefCell<Ours>>, reached: &str) -> Result<bool, String> {
     let seed = seed()?;
     println!("seed {seed}; our functions: {reached}");
     if !check_pinned::run() {
@@ -82,8 +111,9 @@ fn compare(what: &str, mut ours: Ours, reached: &str) -> Result<bool, String> {
     let mut equal = true;
     if what == "compare" {
         for comparison in [compare_sqrt::run, compare_wrapping::run, compare_bits::run] {
-            equal &= comparison(&mut ours, seed);
+            equal &= comparison(&mut ours.borrow_mut(), seed);
         }
+        equal &= compare_excitation::run(ours, seed);
     }
     let folder = announcement_folder();
     if folder.is_none() {

@@ -3,13 +3,13 @@
 use crate::comparison::{NAN, one_nan};
 use crate::float_patterns::*;
 use crate::generator::Generator;
+use crate::hex_words::{print_words, read_words};
 use std::collections::HashSet;
-use std::io::BufRead;
 
 /// The list never changes by itself: its few random patterns come from this seed.
 const LIST_SEED: u64 = 1;
 
-/// Prints the patterns, a line of 16 hex digits each, none twice.
+/// Prints the patterns, none twice.
 pub fn print_patterns() {
     let mut random = Generator::new(LIST_SEED);
     let mut patterns = specials(&mut random);
@@ -19,9 +19,8 @@ pub fn print_patterns() {
     patterns.extend(hardest_to_round());
     patterns.extend(random_ones(&mut random));
     let mut seen = HashSet::new();
-    for bits in patterns.into_iter().filter(|bits| seen.insert(*bits)) {
-        println!("{bits:016x}");
-    }
+    patterns.retain(|bits| seen.insert(*bits));
+    print_words(&patterns);
 }
 
 /// Zeros, infinities, NaNs of either sign with payloads, and other negatives.
@@ -105,22 +104,12 @@ fn random_ones(random: &mut Generator) -> Vec<u64> {
     patterns
 }
 
-/// Reads a pattern of 16 hex digits on each line and prints the bits of its root.
+/// Reads patterns and prints the bits of their roots.
 pub fn print_roots() -> Result<(), String> {
-    for (number, line) in std::io::stdin().lock().lines().enumerate() {
-        let line = line.map_err(|error| error.to_string())?;
-        let bits = read_pattern(&line)
-            .ok_or_else(|| format!("line {}: not 16 hex digits: {line}", number + 1))?;
-        println!("{:016x}", one_nan(f64::from_bits(bits).sqrt().to_bits()));
-    }
+    let roots = read_words()?
+        .into_iter()
+        .map(|bits| f64::from_bits(bits).sqrt());
+    let words: Vec<u64> = roots.map(|root| one_nan(root.to_bits())).collect();
+    print_words(&words);
     Ok(())
-}
-
-fn read_pattern(line: &str) -> Option<u64> {
-    let digits_only = line.len() == 16 && line.bytes().all(|byte| byte.is_ascii_hexdigit());
-    if digits_only {
-        u64::from_str_radix(line, 16).ok()
-    } else {
-        None
-    }
 }

@@ -1,0 +1,92 @@
+//! The excitation, frame by frame: ours by one call a frame, the Rust's by one a sample.
+
+use crate::cases::Case;
+use crate::excitation::Excitation;
+use crate::excitation_calls::{kipawnore_end, kipawnore_start, stretch};
+use crate::excitation_structs::{Pulse, Random};
+use crate::generator::Generator;
+use crate::variants::{Variant, Ways};
+
+/// The samples of a frame, and the frames of a pass, each pass from a fresh voice on.
+const FRAME: usize = 240;
+const FRAMES: usize = 17;
+
+/// The period of a voiced frame in samples; an unvoiced one has 0.
+const PERIOD: f64 = 200.0;
+
+/// The noise is as far from the Rust's as ln is, and where it cancels on the line, further.
+const STEPS: u64 = 1 << 20;
+
+const WAYS: Ways = [
+    Variant {
+        name: "ours",
+        pass: ours,
+    },
+    Variant {
+        name: "Rust, called",
+        pass: |lpf, period| rusts(lpf, period, rust_get),
+    },
+    Variant {
+        name: "Rust, inlined",
+        pass: |lpf, period| rusts(lpf, period, |excitation, lpf| excitation.get(lpf)),
+    },
+];
+
+/// With 31 filter taps and with none, voiced and unvoiced.
+pub fn all(random: &mut Generator) -> Vec<Case> {
+    let mut cases = Vec::new();
+    for nlpf in [31, 0] {
+        for (set, period) in [("voiced", PERIOD), ("unvoiced", 0.0)] {
+            cases.push(Case {
+                function: "excitation",
+                set: format!("nlpf {nlpf}, {set}"),
+                left: (0..nlpf).map(|_| random.unit().to_bits()).collect(),
+                right: vec![period.to_bits()],
+                count: FRAME * FRAMES,
+                variants: WAYS,
+                steps: STEPS,
+            });
+        }
+    }
+    cases
+}
+
+fn ours(lpf: &[u64], period: &[u64]) -> u64 {
+    let (lpf, period) = (floats(lpf), f64::from_bits(period[0]));
+    let (mut pulse, mut random) = (Pulse::FRESH, Random::FRESH);
+    let mut line = vec![0.0; lpf.len()];
+    let mut samples = [0.0; FRAME];
+    (0..FRAMES).fold(0, |sum, _| {
+        pulse = kipawnore_start(pulse, period != 0.0, period, FRAME as u64);
+        let after = stretch(pulse, random, &mut line, &lpf, &mut samples);
+        (pulse, random) = (kipawnore_end(after.pulse), after.random);
+        with_samples(sum, &samples[..after.made])
+    })
+}
+
+fn rusts(lpf: &[u64], period: &[u64], get: impl Fn(&mut Excitation, &[f64]) -> f64) -> u64 {
+    let (lpf, period) = (floats(lpf), f64::from_bits(period[0]));
+    let mut excitation = Excitation::new(lpf.len());
+    let mut samples = [0.0; FRAME];
+    (0..FRAMES).fold(0, |sum, _| {
+        excitation.start(period, FRAME);
+        samples.fill_with(|| get(&mut excitation, &lpf));
+        excitation.end(period);
+        with_samples(sum, &samples)
+    })
+}
+
+#[inline(never)]
+fn rust_get(excitation: &mut Excitation, lpf: &[f64]) -> f64 {
+    excitation.get(lpf)
+}
+
+fn floats(words: &[u64]) -> Vec<f64> {
+    words.iter().map(|word| f64::from_bits(*word)).collect()
+}
+
+fn with_samples(sum: u64, samples: &[f64]) -> u64 {
+    samples
+        .iter()
+        .fold(sum, |sum, sample| sum.wrapping_add(sample.to_bits()))
+}

@@ -1,0 +1,92 @@
+//! The bridge (bridge.c), run under an emulator, with both ends of its pipes.
+
+use crate::excitation_structs::Pulse;
+use crate::ours::Operation;
+use crate::stretches::{Outcome, Request};
+use std::io::{Read, Result, Write};
+use std::process::{Child, ChildStdin, ChildStdout, Command, Stdio};
+
+/// The excitation's functions, under the bridge's numbers. A request is one call.
+#[derive(Clone, Copy)]
+enum Call {
+    Stretch = 11,
+    Start = 12,
+    End = 13,
+}
+
+pub struct Bridge {
+    program: Child,
+    requests: ChildStdin,
+    answers: ChildStdout,
+}
+
+impl Bridge {
+    pub fn open(emulator: &str, bridge: &str) -> Result<Self> {
+        let mut program = Command::new(emulator)
+            .arg(bridge)
+            .stdin(Stdio::piped())
+            .stdout(Stdio::piped())
+            .spawn()?;
+        let requests = program.stdin.take().expect("a piped input");
+        let answers = program.stdout.take().expect("a piped output");
+        Ok(Self {
+            program,
+            requests,
+            answers,
+        })
+    }
+
+    /// The answers to a block of inputs.
+    pub fn answers(&mut self, operation: Operation, inputs: &[u64]) -> Vec<u64> {
+        let count = inputs.len() / operation.arity();
+        self.exchange([operation as u64, count as u64], inputs, count)
+    }
+
+    pub fn stretch(&mut self, request: &Request) -> Outcome {
+        let Request { count, lpf, .. } = request;
+        let answers = Outcome::words_for(*count, lpf.len());
+        let words = self.call(Call::Stretch, &request.words(), answers);
+        Outcome::read(&mut words.into_iter(), *count, lpf.len()).expect("words enough")
+    }
+
+    pub fn start(&mut self, pulse: Pulse, voiced: bool, period: f64, fperiod: u64) -> Pulse {
+        let mut inputs = pulse.words().to_vec();
+        inputs.extend([voiced.into(), period.to_bits(), fperiod]);
+        self.pulse(Call::Start, &inputs)
+    }
+
+    pub fn end(&mut self, pulse: Pulse) -> Pulse {
+        self.pulse(Call::End, &pulse.words())
+    }
+
+    fn pulse(&mut self, call: Call, inputs: &[u64]) -> Pulse {
+        let words = self.call(call, inputs, 4);
+        Pulse::read(&mut words.into_iter()).expect("four words")
+    }
+
+    fn call(&mut self, call: Call, inputs: &[u64], answers: usize) -> Vec<u64> {
+        self.exchange([call as u64, inputs.len() as u64], inputs, answers)
+    }
+
+    /// Sends a request whole, then reads its answers: the bridge reads a request whole before it answers.
+    fn exchange(&mut self, header: [u64; 2], inputs: &[u64], answers: usize) -> Vec<u64> {
+        let words = header.iter().chain(inputs);
+        let request: Vec<u8> = words.flat_map(|word| word.to_le_bytes()).collect();
+        let mut reply = vec![0; answers * 8];
+        self.requests
+            .write_all(&request)
+            .and_then(|()| self.requests.flush())
+            .and_then(|()| self.answers.read_exact(&mut reply))
+            .expect("the bridge ended early");
+        let (words, _) = reply.as_chunks::<8>();
+        words.iter().map(|word| u64::from_le_bytes(*word)).collect()
+    }
+}
+
+impl Drop for Bridge {
+    /// The emulator is not left behind when the driver ends.
+    fn drop(&mut self) {
+        let _ = self.program.kill();
+        let _ = self.program.wait();
+    }
+}
