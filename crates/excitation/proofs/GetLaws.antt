@@ -7,14 +7,14 @@ use lib.Dec.{eqb}
 use lib.Ieee.{Float}
 use lib.ListN.{length}
 use Rattle.number.specs.F64.{_⊖_, _‼_}
-use Rattle.history.specs.Steps.{Step, dry, one}
+use Rattle.history.specs.Steps.{dry, one}
 use Rattle.noise.specs.declared.Random.{Random}
 use Rattle.noise.specs.Noise.{noiseOf}
 use Rattle.excitation.specs.declared.pulse.Pulse.{Pulse}
 use Rattle.excitation.specs.declared.pulse.Pulsed.{Pulsed}
 use Rattle.excitation.specs.Pulse.{voiced, pulseOf}
 use Rattle.excitation.specs.Line.{withNoise, withPulse, shifted}
-use Rattle.excitation.specs.Excitation.{Excitation, following, pulseAlone, noiseAlone, plainStep, mixedLine, pulseAfter, mixed, mixedStep, stepOf}
+use Rattle.excitation.specs.Excitation.{Excitation, pulseAlone, noiseAlone, plainStep, mixedLine, pulseAfter, mixed, mixedStep, stepOf}
 
 module _ (bound : ℕ) (s : Excitation) where
   -- ---- with nlpf 0

@@ -1,2 +1,3 @@
-pub mod LineLaws
-pub mod GetLaws
+mod LineLaws
+mod GetLaws
+pub mod Laws

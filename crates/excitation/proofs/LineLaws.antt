@@ -1,15 +1,15 @@
 -- The loops over the delay line, turn by turn. Assumes nothing.
 use mathlib.Core.Path.{_≡_, refl, sym, ap, _∙_}
 use mathlib.Core.List.{List, [], _∷_, _++_}
-use Prim.Native.Nat.{ℕ, zero, suc, _+_, _-_, _≤_, _<_}
+use Prim.Native.Nat.{ℕ, _+_, _-_, _≤_, _<_}
 use native.Mathlib.Omega.{arith}
 use lib.Ieee.{Float, nan}
-use lib.ListN.{length, getD, set, take, drop, length-append, length-drop, length-set}
+use lib.ListN.{length, set, take, drop, length-drop}
 use lib.Seq.{take-all, getD-drop, length-take-le}
 use Rattle.number.specs.F64.{_⊕_, _⊗_, _‼_, 0f}
 use Rattle.number.specs.Lists.{over}
 use Rattle.number.proofs.Lists.{left-next, left-none, front-turn, front-end, over-more, over-known, over-past, over-end}
-use Rattle.excitation.specs.Line.{withNoise, withPulse, shifted}
+use Rattle.excitation.specs.Line.{withPulse, shifted}
 
 -- ---- c * lpf[k] is added at k: what is made of the rest
 pulse-head : (c h : Float) (lpf : List Float) (tap : Float) (rest : List Float) → withPulse c (h ∷ lpf) (tap ∷ rest) ≡ tap ⊕ c ⊗ h ∷ withPulse c lpf rest
@@ -30,16 +30,6 @@ pub pulse-end : (c : Float) (lpf line : List Float) (k : ℕ) → length lpf ≤
 unfolding withPulse
 pulse-end c lpf line k h g = front-end line (withPulse c (drop k lpf) (drop k line)) k g (rw (left-none lpf k h) (left-none line k g))
 
-pub length-pulse : (c : Float) (lpf line : List Float) → length (withPulse c lpf line) ≡ length line
-unfolding withPulse
-length-pulse c [] line = refl
-length-pulse c (h ∷ lpf) [] = refl
-length-pulse c (h ∷ lpf) (tap ∷ line) = ap suc (length-pulse c lpf line)
-
-pub length-noise : (noise : Float) (line : List Float) → length (withNoise noise line) ≡ length line
-unfolding withNoise
-length-noise noise line = length-set line _ _
-
 -- ---- the line moves down, tap by tap
 pub shift-turn : (L l : List Float) (k : ℕ) → k + 1 < length L → l ≡ over (take k (drop 1 L)) k L
     → set l k (l ‼ (k + 1)) ≡ over (take (k + 1) (drop 1 L)) (k + 1) L
@@ -58,7 +48,3 @@ shift-last L l k h e =
     let n : length (drop 1 L) ≡ k = length-drop 1 L ∙ (omega arith) in
     let all : take k (drop 1 L) ≡ drop 1 L = take-all k (drop 1 L) (omega arith) in
     ap (λ (m : List Float). set m k 0f) (e ∙ ap (λ (xs : List Float). over xs k L) all) ∙ over-more (drop 1 L) L k 0f n (omega arith) ∙ over-end (drop 1 L ++ (0f ∷ [])) L (k + 1) (omega arith)
-
-pub length-shifted : (L : List Float) → 0 < length L → length (shifted L) ≡ length L
-unfolding shifted
-length-shifted L h = simp (length-append, length-drop) (omega arith)

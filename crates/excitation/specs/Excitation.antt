@@ -1,7 +1,6 @@
 -- The excitation, sample by sample: the state in, and a sample with the state after it, or dry. Assumes nothing.
-use mathlib.Core.Path.{_≡_, refl}
-use mathlib.Core.List.{List, [], _∷_, _++_}
-use mathlib.Core.Bool.{Bool, true, false, cond}
+use mathlib.Core.List.{List}
+use mathlib.Core.Bool.{cond}
 use Prim.Native.Nat.{ℕ}
 use lib.Dec.{eqb}
 use lib.ListN.{length}
@@ -11,7 +10,6 @@ use Rattle.history.specs.Steps.{Step, dry, one, Run, steps}
 use Rattle.noise.specs.declared.Random.{Random}
 use Rattle.noise.specs.Noise.{noiseOf}
 use Rattle.excitation.specs.declared.pulse.Pulse.{Pulse}
-use Rattle.excitation.specs.declared.pulse.Pulsed.{Pulsed}
 use Rattle.excitation.specs.declared.Sample.{Sample}
 use Rattle.excitation.specs.declared.Sample.the-variants.{Dry, Made}
 use Rattle.excitation.specs.Pulse.{voiced, pulseOf}

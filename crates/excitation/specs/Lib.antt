@@ -1,3 +1,4 @@
 pub mod Pulse
 pub mod Line
 pub mod Excitation
+pub mod Examples

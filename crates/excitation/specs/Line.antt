@@ -1,5 +1,4 @@
 -- The delay line of nlpf taps, tap 0 first. Assumes nothing.
-use mathlib.Core.Path.{_≡_, refl}
 use mathlib.Core.List.{List, [], _∷_, _++_}
 use Prim.Native.Nat.{ℕ, _-_, _/_}
 use lib.ListN.{length, set, drop}

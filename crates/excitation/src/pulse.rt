@@ -74,13 +74,16 @@ impl Pulse {
     pub fn next(self) -> Pulsed
         ensures { λ r. ⌜ r ≡ pulseOf self ⌝ }
     {
+        let pitch = self.pitch;
+        let counter = self.counter + 1.0;
+        let next_pitch = pitch + self.increment;
         let mut pulse = self;
-        pulse.counter = self.counter + 1.0;
-        pulse.pitch = self.pitch + self.increment;
-        if pulse.counter >= self.pitch {
-            pulse.counter = pulse.counter - self.pitch;
+        pulse.pitch = next_pitch;
+        pulse.counter = counter;
+        if counter >= pitch {
+            pulse.counter = counter - pitch;
             return Pulsed {
-                sample: root::sqrt(self.pitch),
+                sample: root::sqrt(pitch),
                 pulse,
             };
         }

@@ -14,9 +14,9 @@ ghost use Rattle.excitation.specs.Pulse.{startOf, endOf};
 ghost use Rattle.excitation.specs.Excitation.{state};
 ghost use Rattle.exports.specs.Exported.{pitchOf, countOf, runOf};
 use elementary::answer::Answer;
+use excitation::Filled;
 use excitation::pulse::Pitch;
 use excitation::pulse::Pulse;
-use excitation::Filled;
 use noise::Random;
 
 #[no_mangle]
@@ -137,7 +137,13 @@ pub extern "C" fn kipawnore_end(pulse: Pulse) -> Pulse
 
 // Fills `out` with as many samples of the excitation as can be had, and moves the line on.
 #[no_mangle]
-pub extern "C" fn kipawnore_stretch(pulse: Pulse, random: Random, line: &mut [f64], lpf: &[f64], out: &mut [f64]) -> Filled
+pub extern "C" fn kipawnore_stretch(
+    pulse: Pulse,
+    random: Random,
+    line: &mut [f64],
+    lpf: &[f64],
+    out: &mut [f64],
+) -> Filled
     ensures { λ r. ⌜ state (r .pulse) (r .random) (now (line .exit))
         ≡ runOf pulse random (now (line .entry)) (now (lpf .entry)) (length (now (out .entry))) .state ⌝ }
     ensures { λ r. ⌜ r .made ≡ length (runOf pulse random (now (line .entry)) (now (lpf .entry)) (length (now (out .entry))) .made) ⌝ }

@@ -1,12 +1,13 @@
 -- Steps may be cut anywhere, and a loop that takes them one by one comes to what they come to. Assumes nothing.
 use mathlib.Core.Path.{_≡_, refl, sym, ap, _∙_, subst}
-use mathlib.Core.List.{List, [], _∷_, _++_, append-assoc, append-nil}
+use mathlib.Core.List.{List, [], _∷_, _++_, append-nil}
 use mathlib.Core.Bool.{Bool, true, false, false≢true}
-use Prim.Native.Nat.{ℕ, zero, suc, _+_, _-_, _<_, _≤_}
+use Prim.Native.Nat.{ℕ, zero, suc, _+_, _-_, _<_}
 use native.Mathlib.Nat.{zero-add, suc-add}
-use native.Mathlib.Numerals.{add-one}
 use native.Mathlib.Omega.{arith}
+use lib.Dec.{ltb}
 use lib.ListN.{length, set}
+use borrow.Author.Tests.{lt-ltb, le-ltb}
 use Rattle.number.specs.Lists.{over}
 use Rattle.number.proofs.Lists.{over-more}
 use Rattle.history.specs.Steps.{Step, dry, one, Run, running, stopped, joined, onward, steps, continued}
@@ -52,7 +53,7 @@ module _ {State Sample : Type 0} (step : State → Step State Sample) where
   full-one n h dry s e = absurd (false≢true (sym e))
   full-one n h (one x u) s e = ap suc (h u e)
 
-  pub steps-full : (n : ℕ) (s : State) → steps step n s .isDry ≡ false → length (steps step n s .made) ≡ n
+  steps-full : (n : ℕ) (s : State) → steps step n s .isDry ≡ false → length (steps step n s .made) ≡ n
   unfolding steps
   steps-full zero s e = refl
   steps-full (suc n) s e = full-one n (steps-full n) (step s) s e
@@ -62,10 +63,18 @@ module _ {State Sample : Type 0} (step : State → Step State Sample) where
   short-one n h dry s e = omega arith
   short-one n h (one x u) s e = omega (arith, h u e)
 
-  pub steps-short : (n : ℕ) (s : State) → steps step n s .isDry ≡ true → length (steps step n s .made) < n
+  steps-short : (n : ℕ) (s : State) → steps step n s .isDry ≡ true → length (steps step n s .made) < n
   unfolding steps
   steps-short zero s e = absurd (false≢true e)
   steps-short (suc n) s e = short-one n (steps-short n) (step s) s e
+
+  -- so it is dry exactly where fewer samples are made than steps are asked for
+  pub steps-dry : (n : ℕ) (s : State) → steps step n s .isDry ≡ ltb (length (steps step n s .made)) n
+  steps-dry n s = go (steps step n s .isDry) refl
+    where
+      go : (b : Bool) → steps step n s .isDry ≡ b → b ≡ ltb (length (steps step n s .made)) n
+      go true e = sym (lt-ltb (length (steps step n s .made)) n (steps-short n s e))
+      go false e = sym (le-ltb (length (steps step n s .made)) n (omega (arith, steps-full n s e)))
 
   -- ---- a loop that fills a buffer with the samples, one a turn
 

@@ -1,3 +1,3 @@
 mod Between
 pub mod Tries
-pub mod NoiseLaws
+mod NoiseLaws

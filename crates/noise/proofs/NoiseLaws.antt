@@ -6,12 +6,12 @@ use Prim.Native.Nat.{ℕ, zero, suc, _+_, _*_, _<_}
 use native.Mathlib.Omega.{arith}
 use lib.Dec.{T}
 use lib.Ieee.{Float}
-use lib.ListN.{length, set, drop, length-append}
+use lib.ListN.{length, set, length-append}
 use Rattle.number.specs.F64.{_⊗_}
 use Rattle.number.specs.Lists.{over}
 use Rattle.number.proofs.Lists.{over-more, over-end}
 use Rattle.elementary.specs.Exact.{lnInside}
-use Rattle.history.specs.Steps.{Step, dry, one, Run, running, stopped, steps}
+use Rattle.history.specs.Steps.{dry, one, Run, running, stopped, steps}
 use Rattle.history.proofs.StepLaws.{turn-one, turn-dry}
 use Rattle.noise.specs.declared.draw.Try.{Try}
 use Rattle.noise.specs.declared.pair.Found.{Found}

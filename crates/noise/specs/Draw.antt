@@ -1,10 +1,8 @@
--- A draw and a try, as document 01 has them. Assumes nothing.
-use mathlib.Core.Path.{_≡_, refl}
-use mathlib.Core.List.{List, [], _∷_}
-use mathlib.Core.Bool.{Bool, true, false}
+-- A draw and a try, as document 01 has them. Definitions only; Examples computes them.
+use mathlib.Core.Bool.{Bool}
 use Prim.Native.Nat.{ℕ, _+_, _*_, _/_, _%_, _^_}
-use lib.IntN.{pos, negsuc}
-use lib.Ieee.{Float, fin, binary64, ofBits, ofInt, add, sub, mul, div, neg, lt}
+use lib.IntN.{pos}
+use lib.Ieee.{Float, binary64, ofBits, ofInt}
 use Rattle.number.specs.F64.{_⊕_, _⊖_, _⊗_, _⊘_, 0f, 1f, 2f}
 use Rattle.number.specs.Range.{isStrictlyWithin}
 use Rattle.noise.specs.declared.draw.Try.{Try}
@@ -39,11 +37,3 @@ tryOf next =
 -- and is accepted when 0 < s < 1
 abbrev pub accepted : Try → Bool
 accepted t = isStrictlyWithin (t .s) 0f 1f
-
--- document 01, item 6: the first draws
-drawn : ℕ → ℕ
-drawn next = drawOf next
-
-pub first-draws : rOf (drawOf 1) ∷ rOf (drawOf (drawOf 1)) ∷ rOf (drawOf (drawOf (drawOf 1))) ∷ rOf (drawOf (drawOf (drawOf (drawOf 1)))) ∷ []
-    ≡ 16838 ∷ 5758 ∷ 10113 ∷ 17515 ∷ []
-first-draws = refl

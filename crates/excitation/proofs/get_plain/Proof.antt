@@ -1,9 +1,7 @@
 -- `get_plain` meets its contract. Assumes nothing.
 use mathlib.Core.Path.{_≡_, refl, sym, ap, _∙_}
-use mathlib.Core.List.{List}
 use Prim.Native.Nat.{ℕ}
 use native.Mathlib.Omega.{arith}
-use lib.Ieee.{Float}
 use Rattle.noise.specs.declared.Taken.{Taken}
 use Rattle.noise.specs.Draw.{tries}
 use Rattle.noise.specs.Noise.{takenOf}

@@ -1,9 +1,9 @@
 -- `stretch` meets its contract: after i turns the state is that after i samples, and they stand in `out`. Assumes nothing.
-use mathlib.Core.Path.{_≡_, refl, sym, ap, _∙_, subst}
-use Prim.Native.Nat.{ℕ, _+_, _-_, _≤_, _<_}
+use mathlib.Core.Path.{_≡_, refl, sym, ap, _∙_}
+use Prim.Native.Nat.{_-_, _≤_}
 use native.Mathlib.Omega.{arith}
 use lib.ListN.{length, length-set}
-use Rattle.history.proofs.StepLaws.{Reached, Filled, reached-none, reached-more, reached-end, reached-dry}
+use Rattle.history.proofs.StepLaws.{Reached, reached-none, reached-more, reached-end, reached-dry}
 use Rattle.noise.specs.Draw.{tries}
 use Rattle.excitation.specs.declared.Sample.{Sample}
 use Rattle.excitation.specs.Excitation.{excitation, stepOf, sampledOf}

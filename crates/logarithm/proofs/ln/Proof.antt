@@ -1,14 +1,13 @@
 -- `ln` meets its contract, branch by branch. Assumes nothing.
-use mathlib.Core.Path.{_≡_, refl, sym, ap, _∙_, subst}
+use mathlib.Core.Path.{_≡_, refl, sym, subst}
 use mathlib.Core.Bool.{true, false}
 use lib.Dec.{T}
-use lib.Ieee.{Float, binary64, fits, ofBits, toBits, div}
+use lib.Ieee.{Float, binary64, fits, ofBits, div}
 use Rattle.elementary.specs.declared.answer.Answer.{Answer}
-use Rattle.elementary.specs.declared.answer.Answer.the-variants.{Outside, Inside}
+use Rattle.elementary.specs.declared.answer.Answer.the-variants.{Outside}
 use Rattle.elementary.specs.Exact.{lnInside, LnAnswer}
-use Rattle.logarithm.specs.Ln.{ofPattern, lnOf}
-use Rattle.elementary.proofs.Patterns.{not-nan}
-use Rattle.logarithm.proofs.Inside.{inside, outside-below, outside-above, normal-above, bits-least, bits-most}
+use Rattle.logarithm.specs.Ln.{lnOf}
+use Rattle.logarithm.proofs.Inside.{inside, outside-below, outside-above}
 use Rattle.logarithm.proofs.Found.{meets}
 use Rattle.logarithm.proofs.ln.Statement.{statement}
 use Rattle.logarithm.proofs.ln.Tie as tie

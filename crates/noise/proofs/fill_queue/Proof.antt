@@ -1,16 +1,9 @@
 -- `fill_queue` meets its contract: after i turns the values are those of the first i pairs. Assumes nothing.
-use mathlib.Core.Path.{_≡_, refl, sym, ap, _∙_, subst}
-use mathlib.Core.List.{List, [], _∷_, _++_}
-use mathlib.Core.Bool.{Bool, true, false}
-use Prim.Native.Nat.{ℕ, _+_, _-_, _*_, _≤_, _<_}
+use mathlib.Core.Path.{_≡_, refl, sym, _∙_, subst}
+use Prim.Native.Nat.{ℕ, _+_, _-_, _*_, _≤_}
 use native.Mathlib.Omega.{arith}
 use borrow.Author.Needs.{needs}
-use lib.Ieee.{Float}
-use lib.ListN.{length, set, length-set, length-append}
-use Rattle.number.specs.Lists.{over}
-use Rattle.number.proofs.Lists.{over-end}
-use Rattle.history.specs.Steps.{Step, dry, one, Run, running, stopped, steps}
-use Rattle.history.proofs.StepLaws.{turn-one, turn-dry}
+use lib.ListN.{length, set, length-set}
 use Rattle.noise.specs.declared.pair.Found.the-variants as found
 use Rattle.noise.specs.Draw.{tries}
 use Rattle.noise.specs.Noise.{foundOf}

@@ -1,14 +1,13 @@
 -- `nrandom` meets its contract. Assumes nothing.
 use mathlib.Core.Path.{_≡_, refl, sym, ap, _∙_}
-use mathlib.Core.Bool.{true, false}
-use Prim.Native.Nat.{ℕ, _<_, _≤_}
+use Prim.Native.Nat.{ℕ}
 use native.Mathlib.Omega.{arith}
 use borrow.Author.Needs.{needs}
 use borrow.Author.Tests.{lt-ltb, le-ltb}
 use Rattle.noise.specs.declared.Filling.{Filling}
 use Rattle.noise.specs.declared.Filling.the-variants as filling
 use Rattle.noise.specs.Draw.{tries}
-use Rattle.noise.specs.Noise.{fillingOf, filledOf, takeFirst, noiseOf}
+use Rattle.noise.specs.Noise.{fillingOf, filledOf, noiseOf}
 use Rattle.noise.proofs.nrandom.Statement.{statement}
 use Rattle.noise.proofs.nrandom.Tie as tie
 

@@ -1,7 +1,7 @@
 -- `add_pulse` meets its contract: what the rest of the turns makes of the line is what all of them make. Assumes nothing.
 use mathlib.Core.Path.{_≡_, refl, sym, _∙_}
 use mathlib.Core.List.{_++_}
-use Prim.Native.Nat.{_+_, _-_, _≤_}
+use Prim.Native.Nat.{_+_, _-_}
 use native.Mathlib.Omega.{arith}
 use lib.ListN.{length, take, drop, length-set}
 use Rattle.excitation.specs.Line.{withPulse}

@@ -1,7 +1,7 @@
 -- `attempt` meets its contract. Assumes nothing.
-use mathlib.Core.Path.{_≡_, refl, ap, _∙_}
+use mathlib.Core.Path.{refl}
 use borrow.Author.Needs.{needs}
-use Rattle.noise.specs.Draw.{valueOf, tryOf}
+use Rattle.noise.specs.Draw.{tryOf}
 use Rattle.noise.proofs.draw.attempt.Statement.{statement}
 use Rattle.noise.proofs.draw.attempt.Tie as tie
 

@@ -1,5 +1,5 @@
 -- `multiplier` meets its contract. Assumes nothing.
-use mathlib.Core.Path.{_≡_, refl, sym, ap, _∙_}
+use mathlib.Core.Path.{_≡_, ap}
 use borrow.Author.Needs.{needs}
 use lib.Ieee.{Float}
 use Rattle.elementary.specs.Band.{numberOf}

@@ -1,7 +1,6 @@
 -- `end` meets its contract. Assumes nothing.
 use mathlib.Core.Path.{refl}
 use Rattle.excitation.specs.Pulse.{endOf}
-use borrow.Author.Needs.{needs}
 use Rattle.excitation.proofs.pulse.Pulse.end.Statement.{statement}
 use Rattle.excitation.proofs.pulse.Pulse.end.Tie as tie
 

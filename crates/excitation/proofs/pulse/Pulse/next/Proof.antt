@@ -10,7 +10,7 @@ sqrt-requires c κs = search needs
 
 returns : tie.Need-returns
 unfolding pulseOf
-returns c = rw (c .before .before .before .if1 .taken, c .sqrt .ensures) refl
+returns c = rw (c .before .if1 .taken, c .sqrt .ensures) refl
 
 returns-2 : tie.Need-returns-2
 unfolding pulseOf

@@ -1,8 +1,8 @@
 -- `word` stays within the sixteen digits. Assumes nothing.
 use Prim.Native.Nat.{_≤_, _-_}
 use borrow.Author.Needs.{needs}
-use Rattle.roots.proofs.word.Statement.{statement}
-use Rattle.roots.proofs.word.Tie as tie
+use Rattle.words.proofs.word.Statement.{statement}
+use Rattle.words.proofs.word.Tie as tie
 
 abbrev Inv-loop : tie.InvT-loop
 Inv-loop text at n₀ i₀ n i = i ≤ 16
