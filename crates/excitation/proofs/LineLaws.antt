@@ -1,10 +1,11 @@
 -- The loops over the delay line, turn by turn. Assumes nothing.
 use mathlib.Core.Path.{_≡_, refl, sym, ap, _∙_}
 use mathlib.Core.List.{List, [], _∷_, _++_}
-use Prim.Native.Nat.{ℕ, _+_, _-_, _≤_, _<_}
+use Prim.Native.Nat.{ℕ, _+_, _-_, _≤_, _<_, min}
+use native.Mathlib.Decide.{decLe}
 use native.Mathlib.Omega.{arith}
 use lib.Ieee.{Float, nan}
-use lib.ListN.{length, set, take, drop, length-drop}
+use lib.ListN.{length, set, take, drop, length-drop, take-append-drop}
 use lib.Seq.{take-all, getD-drop, length-take-le}
 use Rattle.number.specs.F64.{_⊕_, _⊗_, _‼_, 0f}
 use Rattle.number.specs.Lists.{over}
@@ -26,9 +27,25 @@ pub pulse-turn : (c : Float) (lpf line : List Float) (k : ℕ) → k < length lp
 pulse-turn c lpf line k h g =
     front-turn (withPulse c (drop k lpf)) (withPulse c (drop (k + 1) lpf)) line k (line ‼ k ⊕ c ⊗ (lpf ‼ k)) nan g (pulse-at c lpf k (line ‼ k) (drop (k + 1) line) h)
 
-pub pulse-end : (c : Float) (lpf line : List Float) (k : ℕ) → length lpf ≤ k → length line ≤ k → take k line ++ withPulse c (drop k lpf) (drop k line) ≡ line
+-- and where one of the two is at its end, nothing is left to add
+pulse-none : (c : Float) (lpf : List Float) → withPulse c lpf [] ≡ []
 unfolding withPulse
-pulse-end c lpf line k h g = front-end line (withPulse c (drop k lpf) (drop k line)) k g (rw (left-none lpf k h) (left-none line k g))
+pulse-none c [] = refl
+pulse-none c (h ∷ lpf) = refl
+
+line-done : (c : Float) (lpf line : List Float) (k : ℕ) → length line ≤ k → take k line ++ withPulse c (drop k lpf) (drop k line) ≡ line
+line-done c lpf line k g = front-end line (withPulse c (drop k lpf) (drop k line)) k g (ap (withPulse c (drop k lpf)) (left-none line k g) ∙ pulse-none c (drop k lpf))
+
+taps-done : (c : Float) (lpf line : List Float) (k : ℕ) → length lpf ≤ k → take k line ++ withPulse c (drop k lpf) (drop k line) ≡ line
+unfolding withPulse
+taps-done c lpf line k h = rw (left-none lpf k h) (take-append-drop k line)
+
+pub pulse-end : (c : Float) (lpf line : List Float) (k : ℕ) → min (length line) (length lpf) ≤ k → take k line ++ withPulse c (drop k lpf) (drop k line) ≡ line
+pulse-end c lpf line k h = go (decLe (length line) k)
+  where
+    go : Dec (length line ≤ k) → take k line ++ withPulse c (drop k lpf) (drop k line) ≡ line
+    go (yes g) = line-done c lpf line k g
+    go (no g) = taps-done c lpf line k (omega (arith, g))
 
 -- ---- the line moves down, tap by tap
 pub shift-turn : (L l : List Float) (k : ℕ) → k + 1 < length L → l ≡ over (take k (drop 1 L)) k L

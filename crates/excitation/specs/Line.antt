@@ -12,7 +12,7 @@ middle line = (length line - 1) / 2
 unfoldable pub withNoise : Float → List Float → List Float
 withNoise noise line = set line (middle line) (line ‼ middle line ⊕ noise)
 
--- c * lpf[k] added to each tap k
+-- c * lpf[k] added to each tap k, as far as there are both
 unfoldable pub withPulse : Float → List Float → List Float → List Float
 withPulse c [] line = line
 withPulse c (h ∷ lpf) [] = []

@@ -54,7 +54,7 @@ fn get_plain(pulse: Pulse, next: u64, used: usize, queue: &mut [f64; 64]) -> Sam
 
 // The sample that a value of the noise makes on the line.
 fn mix(pulse: Pulse, noise: f64, line: &mut [f64], lpf: &[f64]) -> Pulsed
-    requires { ⌜ (0 < length (now line)) × (length (now lpf) ≡ length (now line)) ⌝ }
+    requires { ⌜ 0 < length (now line) ⌝ }
     ensures { λ r. ⌜ r ≡ record { sample = mixedLine pulse noise (now (lpf .entry)) (now (line .entry)) ‼ 0; pulse = pulseAfter pulse } ⌝ }
     ensures { λ _. ⌜ now (line .exit) ≡ shifted (mixedLine pulse noise (now (lpf .entry)) (now (line .entry))) ⌝ }
 {
@@ -83,7 +83,7 @@ fn get_mixed(
     line: &mut [f64],
     lpf: &[f64],
 ) -> Sample
-    requires { ⌜ (length (now queue) ≡ 64) × (0 < length (now line)) × (length (now lpf) ≡ length (now line)) ⌝ }
+    requires { ⌜ (length (now queue) ≡ 64) × (0 < length (now line)) ⌝ }
     ensures { λ r. ⌜ sampledOf r (now (queue .exit)) (now (line .exit))
         ≡ mixedStep tries (now (lpf .entry)) (excitation pulse next used (now (queue .entry)) (now (line .entry))) ⌝ }
     ensures { λ r. ⌜ (r ≡ Dry → (now (queue .exit) ≡ now (queue .entry)) × (now (line .exit) ≡ now (line .entry))) ⌝ }
@@ -109,7 +109,7 @@ fn get(
     line: &mut [f64],
     lpf: &[f64],
 ) -> Sample
-    requires { ⌜ (length (now queue) ≡ 64) × (length (now lpf) ≡ length (now line)) ⌝ }
+    requires { ⌜ length (now queue) ≡ 64 ⌝ }
     ensures { λ r. ⌜ sampledOf r (now (queue .exit)) (now (line .exit))
         ≡ stepOf tries (now (lpf .entry)) (excitation pulse next used (now (queue .entry)) (now (line .entry))) ⌝ }
     ensures { λ r. ⌜ (r ≡ Dry → (now (queue .exit) ≡ now (queue .entry)) × (now (line .exit) ≡ now (line .entry))) ⌝ }
@@ -122,7 +122,7 @@ fn get(
     }
 }
 
-// Fills `out` with as many samples as can be had. The line has as many taps as lpf.
+// Fills `out` with as many samples as can be had. nlpf is the length of the line.
 pub fn stretch(
     pulse: Pulse,
     random: Random,
@@ -130,7 +130,6 @@ pub fn stretch(
     lpf: &[f64],
     out: &mut [f64],
 ) -> Filled
-    requires { ⌜ length (now lpf) ≡ length (now line) ⌝ }
     ensures { λ r. ⌜ state (r .pulse) (r .random) (now (line .exit))
         ≡ stretchOf tries (now (lpf .entry)) (length (now (out .entry))) (state pulse random (now (line .entry))) .state ⌝ }
     ensures { λ r. ⌜ r .made ≡ length (stretchOf tries (now (lpf .entry)) (length (now (out .entry))) (state pulse random (now (line .entry))) .made) ⌝ }

@@ -1,6 +1,6 @@
 // The delay line: what is added to its taps, and what goes out.
 ghost use mathlib.Core.Path.{_≡_};
-ghost use Prim.Native.Nat.{_<_};
+ghost use Prim.Native.Nat.{_<_, min};
 ghost use lib.ListN.{length};
 ghost use Rattle.number.specs.F64.{_‼_};
 ghost use Rattle.excitation.specs.Line.{withNoise, withPulse, shifted};
@@ -14,13 +14,20 @@ pub fn add_noise(line: &mut [f64], noise: f64)
     line[middle] = line[middle] + noise;
 }
 
-// c * lpf[k] goes to each tap k.
+// The smaller of two numbers.
+fn least(a: usize, b: usize) -> usize
+    ensures { λ r. ⌜ r ≡ min a b ⌝ }
+{
+    if a < b { a } else { b }
+}
+
+// c * lpf[k] goes to each tap k. Where lpf is shorter than the line, the taps past its end stay.
 pub fn add_pulse(line: &mut [f64], lpf: &[f64], c: f64)
-    requires { ⌜ length (now lpf) ≡ length (now line) ⌝ }
     ensures { λ _. ⌜ now (line .exit) ≡ withPulse c (now (lpf .entry)) (now (line .entry)) ⌝ }
 {
+    let n = least(line.len(), lpf.len());
     let mut k = 0;
-    while k < line.len() {
+    while k < n {
         line[k] = line[k] + c * lpf[k];
         k += 1;
     }

@@ -11,8 +11,9 @@ ghost use Rattle.elementary.specs.Band.{numberOf};
 ghost use lib.ListN.{length};
 ghost use Rattle.number.specs.Lists.{over};
 ghost use Rattle.excitation.specs.Pulse.{startOf, endOf};
-ghost use Rattle.excitation.specs.Excitation.{state};
-ghost use Rattle.exports.specs.Exported.{pitchOf, countOf, runOf};
+ghost use Rattle.excitation.specs.Excitation.{state, stretchOf};
+ghost use Rattle.noise.specs.Draw.{tries};
+ghost use Rattle.exports.specs.Exported.{pitchOf, countOf};
 use elementary::answer::Answer;
 use excitation::Filled;
 use excitation::pulse::Pitch;
@@ -137,25 +138,12 @@ pub extern "C" fn kipawnore_end(pulse: Pulse) -> Pulse
 
 // Fills `out` with as many samples of the excitation as can be had, and moves the line on.
 #[no_mangle]
-pub extern "C" fn kipawnore_stretch(
-    pulse: Pulse,
-    random: Random,
-    line: &mut [f64],
-    lpf: &[f64],
-    out: &mut [f64],
-) -> Filled
+pub extern "C" fn kipawnore_stretch(pulse: Pulse, random: Random, line: &mut [f64], lpf: &[f64], out: &mut [f64]) -> Filled
     ensures { λ r. ⌜ state (r .pulse) (r .random) (now (line .exit))
-        ≡ runOf pulse random (now (line .entry)) (now (lpf .entry)) (length (now (out .entry))) .state ⌝ }
-    ensures { λ r. ⌜ r .made ≡ length (runOf pulse random (now (line .entry)) (now (lpf .entry)) (length (now (out .entry))) .made) ⌝ }
+        ≡ stretchOf tries (now (lpf .entry)) (length (now (out .entry))) (state pulse random (now (line .entry))) .state ⌝ }
+    ensures { λ r. ⌜ r .made ≡ length (stretchOf tries (now (lpf .entry)) (length (now (out .entry))) (state pulse random (now (line .entry))) .made) ⌝ }
     ensures { λ r. ⌜ now (out .exit)
-        ≡ over (runOf pulse random (now (line .entry)) (now (lpf .entry)) (length (now (out .entry))) .made) (r .made) (now (out .entry)) ⌝ }
+        ≡ over (stretchOf tries (now (lpf .entry)) (length (now (out .entry))) (state pulse random (now (line .entry))) .made) (r .made) (now (out .entry)) ⌝ }
 {
-    if lpf.len() == line.len() {
-        return excitation::stretch(pulse, random, line, lpf, out);
-    }
-    Filled {
-        made: 0,
-        pulse,
-        random,
-    }
+    excitation::stretch(pulse, random, line, lpf, out)
 }

@@ -1,7 +1,7 @@
 -- `add_pulse` meets its contract: what the rest of the turns makes of the line is what all of them make. Assumes nothing.
 use mathlib.Core.Path.{_≡_, refl, sym, _∙_}
 use mathlib.Core.List.{_++_}
-use Prim.Native.Nat.{_+_, _-_}
+use Prim.Native.Nat.{_-_, _≤_, min}
 use native.Mathlib.Omega.{arith}
 use lib.ListN.{length, take, drop, length-set}
 use Rattle.excitation.specs.Line.{withPulse}
@@ -11,13 +11,16 @@ use Rattle.excitation.proofs.line.add_pulse.Statement.{statement}
 use Rattle.excitation.proofs.line.add_pulse.Tie as tie
 
 abbrev Inv-loop : tie.InvT-loop
-Inv-loop line₀ lpf c k₀ line k = (length line ≡ length line₀) × (take k line ++ withPulse c (drop k lpf) (drop k line) ≡ withPulse c lpf line₀)
+Inv-loop line₀ lpf c n k₀ line k = (n ≡ min (length line₀) (length lpf)) × (k ≤ n) × (length line ≡ length line₀) × (take k line ++ withPulse c (drop k lpf) (drop k line) ≡ withPulse c lpf line₀)
 
 abbrev μ-loop : tie.MeasureT-loop
-μ-loop line₀ lpf c k₀ line k = length line₀ - k
+μ-loop line₀ lpf c n k₀ line k = n - k
+
+least-requires : tie.Need-least-requires Inv-loop μ-loop
+least-requires c κs = search needs
 
 loop-holds : tie.Need-loop-holds Inv-loop μ-loop
-loop-holds c = (refl, refl)
+loop-holds c = (c .least .ensures, omega arith, refl, refl)
 
 mul-line : tie.Need-mul-line Inv-loop μ-loop
 mul-line c = search needs
@@ -48,8 +51,8 @@ loop-again c =
     let top = c .before .before .before in
     let k = top .loop .k in
     let line = top .loop .line in
-    let lpf = top .before .args .lpf .now in
-    (length-set line k _ ∙ top .loop .inv .0, pulse-turn (top .before .args .c) lpf line k (omega arith) (omega arith) ∙ top .loop .inv .1)
+    let a = c .before .before .before .before .before .before .before .args in
+    (top .loop .inv .0, omega arith, length-set line k _ ∙ top .loop .inv .2, pulse-turn (a .c) (a .lpf .now) line k (omega arith) (omega arith) ∙ top .loop .inv .3)
 
 same-length : tie.Need-same-length Inv-loop μ-loop
 same-length c = search needs
@@ -57,9 +60,8 @@ same-length c = search needs
 returns : tie.Need-returns Inv-loop μ-loop
 returns c =
     let top = c .before in
-    let start = top .before in
-    let line = top .loop .line in
-    sym (pulse-end (start .args .c) (start .args .lpf .now) line (top .loop .k) (omega arith) (omega arith)) ∙ top .loop .inv .1
+    let a = c .before .before .before .before .before .args in
+    sym (pulse-end (a .c) (a .lpf .now) (top .loop .line) (top .loop .k) (omega arith)) ∙ top .loop .inv .3
 
 pub add-pulse-spec : {M : Type 1} → statement M
 add-pulse-spec =
@@ -67,6 +69,7 @@ add-pulse-spec =
     (tie.spec
     Inv-loop
     μ-loop
+    least-requires
     loop-holds
     mul-line
     slice-read-line
