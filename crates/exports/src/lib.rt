@@ -138,7 +138,13 @@ pub extern "C" fn kipawnore_end(pulse: Pulse) -> Pulse
 
 // Fills `out` with as many samples of the excitation as can be had, and moves the line on.
 #[no_mangle]
-pub extern "C" fn kipawnore_stretch(pulse: Pulse, random: Random, line: &mut [f64], lpf: &[f64], out: &mut [f64]) -> Filled
+pub extern "C" fn kipawnore_stretch(
+    pulse: Pulse,
+    random: Random,
+    line: &mut [f64],
+    lpf: &[f64],
+    out: &mut [f64],
+) -> Filled
     ensures { λ r. ⌜ state (r .pulse) (r .random) (now (line .exit))
         ≡ stretchOf tries (now (lpf .entry)) (length (now (out .entry))) (state pulse random (now (line .entry))) .state ⌝ }
     ensures { λ r. ⌜ r .made ≡ length (stretchOf tries (now (lpf .entry)) (length (now (out .entry))) (state pulse random (now (line .entry))) .made) ⌝ }
