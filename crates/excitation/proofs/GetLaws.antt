@@ -10,11 +10,11 @@ use Rattle.number.specs.F64.{_⊖_, _‼_}
 use Rattle.history.specs.Steps.{dry, one}
 use Rattle.noise.specs.declared.Random.{Random}
 use Rattle.noise.specs.Noise.{noiseOf}
-use Rattle.excitation.specs.declared.pulse.Pulse.{Pulse}
-use Rattle.excitation.specs.declared.pulse.Pulsed.{Pulsed}
-use Rattle.excitation.specs.Pulse.{voiced, pulseOf}
-use Rattle.excitation.specs.Line.{withNoise, withPulse, shifted}
-use Rattle.excitation.specs.Excitation.{Excitation, pulseAlone, noiseAlone, plainStep, mixedLine, pulseAfter, mixed, mixedStep, stepOf}
+use Rattle.pulse.specs.declared.Pulse.{Pulse}
+use Rattle.pulse.specs.declared.Pulsed.{Pulsed}
+use Rattle.pulse.specs.Train.{voiced, pulseOf, pulseAfter}
+use Rattle.delay.specs.Line.{withNoise, withPulse, shifted}
+use Rattle.excitation.specs.Excitation.{Excitation, pulseAlone, noiseAlone, plainStep, mixedLine, mixed, mixedStep, stepOf}
 
 module _ (bound : ℕ) (s : Excitation) where
   -- ---- with nlpf 0

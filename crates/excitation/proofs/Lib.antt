@@ -1,3 +1,2 @@
-mod LineLaws
 mod GetLaws
 pub mod Laws

@@ -9,11 +9,11 @@ use Rattle.number.specs.F64.{_⊖_, _‼_}
 use Rattle.history.specs.Steps.{Step, dry, one, Run, steps}
 use Rattle.noise.specs.declared.Random.{Random}
 use Rattle.noise.specs.Noise.{noiseOf}
-use Rattle.excitation.specs.declared.pulse.Pulse.{Pulse}
+use Rattle.pulse.specs.declared.Pulse.{Pulse}
 use Rattle.excitation.specs.declared.Sample.{Sample}
 use Rattle.excitation.specs.declared.Sample.the-variants.{Dry, Made}
-use Rattle.excitation.specs.Pulse.{voiced, pulseOf}
-use Rattle.excitation.specs.Line.{withNoise, withPulse, shifted}
+use Rattle.pulse.specs.Train.{voiced, pulseOf, pulseAfter}
+use Rattle.delay.specs.Line.{withNoise, withPulse, shifted}
 
 -- the pulse train, the noise and the delay line
 pub record Excitation : Type 0 where
@@ -42,14 +42,10 @@ noiseAlone s noise random = one noise (state (s .pulse) random (s .line))
 unfoldable pub plainStep : ℕ → Excitation → Step Excitation Float
 plainStep bound s = cond (voiced (s .pulse .pitch)) (pulseAlone s) (following (noiseOf bound (s .random)) (noiseAlone s))
 
--- With more, the noise goes to the line, and where the pitch is not 0, (pulse - noise) * lpf[k] to each tap k;
+-- With more, the noise goes to the line, and where the pitch is not 0, (pulse - noise) * lpf[k] to each tap k,
 unfoldable pub mixedLine : Pulse → Float → List Float → List Float → List Float
 mixedLine pulse noise lpf line =
     cond (voiced (pulse .pitch)) (withPulse (pulseOf pulse .sample ⊖ noise) lpf (withNoise noise line)) (withNoise noise line)
-
--- the pulse train stands still where the pitch is 0;
-unfoldable pub pulseAfter : Pulse → Pulse
-pulseAfter pulse = cond (voiced (pulse .pitch)) (pulseOf pulse .pulse) pulse
 
 -- and tap 0 goes out.
 abbrev pub mixed : List Float → Excitation → Float → Random → Step Excitation Float

@@ -1,4 +1,2 @@
-pub mod Pulse
-pub mod Line
 pub mod Excitation
 pub mod Examples

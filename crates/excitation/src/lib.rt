@@ -7,17 +7,14 @@ ghost use lib.Ieee.{Float};
 ghost use Rattle.number.specs.F64.{_‼_};
 ghost use Rattle.number.specs.Lists.{over};
 ghost use Rattle.noise.specs.Draw.{tries};
-ghost use Rattle.excitation.specs.Excitation.{state, excitation, mixedLine, pulseAfter, plainStep, mixedStep, stepOf, stretchOf, sampledOf};
-ghost use Rattle.excitation.specs.Line.{shifted};
+ghost use Rattle.excitation.specs.Excitation.{state, excitation, mixedLine, plainStep, mixedStep, stepOf, stretchOf, sampledOf};
+ghost use Rattle.pulse.specs.Train.{pulseAfter};
+ghost use Rattle.delay.specs.Line.{shifted};
 ghost use Rattle.excitation.specs.declared.Sample.the-variants.{Dry};
-
-mod line;
-pub mod pulse;
-
-use crate::pulse::Pulse;
-use crate::pulse::Pulsed;
 use noise::Random;
 use noise::Taken;
+use pulse::Pulse;
+use pulse::Pulsed;
 
 // A sample, with the pulse train and the noise's `next` and `used` after it; or dry.
 pub enum Sample {
@@ -58,18 +55,18 @@ fn mix(pulse: Pulse, noise: f64, line: &mut [f64], lpf: &[f64]) -> Pulsed
     ensures { λ r. ⌜ r ≡ record { sample = mixedLine pulse noise (now (lpf .entry)) (now (line .entry)) ‼ 0; pulse = pulseAfter pulse } ⌝ }
     ensures { λ _. ⌜ now (line .exit) ≡ shifted (mixedLine pulse noise (now (lpf .entry)) (now (line .entry))) ⌝ }
 {
-    line::add_noise(line, noise);
+    delay::add_noise(line, noise);
     if pulse.pitch != 0.0 {
         let p = pulse.next();
         let after = p.pulse;
-        line::add_pulse(line, lpf, p.sample - noise);
+        delay::add_pulse(line, lpf, p.sample - noise);
         return Pulsed {
-            sample: line::shift(line),
+            sample: delay::shift(line),
             pulse: after,
         };
     }
     Pulsed {
-        sample: line::shift(line),
+        sample: delay::shift(line),
         pulse,
     }
 }

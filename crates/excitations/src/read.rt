@@ -1,8 +1,8 @@
 // Parts of a case, read from its words. Every line is of 17 bytes.
 ghost use Prim.Native.Nat.{_+_, _*_, _≤_};
 ghost use lib.ListN.{length};
-use excitation::pulse::Pulse;
 use noise::Random;
+use pulse::Pulse;
 
 // The float of the word at `at`.
 fn float(text: &[u8], at: usize) -> f64

@@ -2,8 +2,8 @@
 use mathlib.Core.Bool.{Bool, cond}
 use Prim.Native.Nat.{ℕ, _^_, min}
 use lib.Ieee.{Float}
-use Rattle.excitation.specs.declared.pulse.Pitch.{Pitch}
-use Rattle.excitation.specs.declared.pulse.Pitch.the-variants.{Unvoiced, Voiced}
+use Rattle.pulse.specs.declared.Pitch.{Pitch}
+use Rattle.pulse.specs.declared.Pitch.the-variants.{Unvoiced, Voiced}
 
 -- the pitch of a frame, from a flag and a period
 abbrev pub pitchOf : Bool → Float → Pitch

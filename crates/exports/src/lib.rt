@@ -10,15 +10,15 @@ ghost use Rattle.power.specs.Power.{inversePowerOf, inverseRootOf};
 ghost use Rattle.elementary.specs.Band.{numberOf};
 ghost use lib.ListN.{length};
 ghost use Rattle.number.specs.Lists.{over};
-ghost use Rattle.excitation.specs.Pulse.{startOf, endOf};
+ghost use Rattle.pulse.specs.Train.{startOf, endOf};
 ghost use Rattle.excitation.specs.Excitation.{state, stretchOf};
 ghost use Rattle.noise.specs.Draw.{tries};
 ghost use Rattle.exports.specs.Exported.{pitchOf, countOf};
 use elementary::answer::Answer;
 use excitation::Filled;
-use excitation::pulse::Pitch;
-use excitation::pulse::Pulse;
 use noise::Random;
+use pulse::Pitch;
+use pulse::Pulse;
 
 #[no_mangle]
 pub extern "C" fn kipawnore_sqrt(x: f64) -> f64

@@ -5,7 +5,7 @@ use native.Mathlib.Omega.{arith}
 use Rattle.noise.specs.declared.Taken.{Taken}
 use Rattle.noise.specs.Draw.{tries}
 use Rattle.noise.specs.Noise.{takenOf}
-use Rattle.excitation.specs.declared.pulse.Pulsed.{Pulsed}
+use Rattle.pulse.specs.declared.Pulsed.{Pulsed}
 use Rattle.excitation.specs.declared.Sample.the-variants.{Made}
 use Rattle.excitation.specs.Excitation.{excitation, sampledOf}
 use Rattle.excitation.proofs.GetLaws.{plain-pulse, plain-noise, plain-dry}

@@ -1,0 +1,2 @@
+pub mod Train
+pub mod Examples
