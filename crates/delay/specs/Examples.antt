@@ -19,6 +19,11 @@ pub pulse-to-each : withPulse 2f (1f ∷ ½f ∷ []) (1f ∷ 1f ∷ []) ≡ fin 
 unfolding withPulse add mul ofBits
 pulse-to-each = refl
 
+-- with one filter tap the second tap of the line stays
+pub taps-past-the-end-stay : withPulse 2f (1f ∷ []) (1f ∷ 1f ∷ []) ≡ fin false 3 (pos 0) ∷ 1f ∷ []
+unfolding withPulse add mul ofBits
+taps-past-the-end-stay = refl
+
 pub zero-comes-in : shifted (1f ∷ 2f ∷ 3f ∷ []) ≡ 2f ∷ 3f ∷ 0f ∷ []
 unfolding shifted
 zero-comes-in = refl
