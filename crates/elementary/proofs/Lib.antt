@@ -12,3 +12,4 @@ pub mod Sum
 pub mod Tail
 pub mod FloatChain
 pub mod Answers
+pub mod OutcomeLaws

@@ -1,0 +1,72 @@
+-- How the definitions go on by one entry. Assumes nothing.
+use mathlib.Core.Path.{_≡_, refl, sym, _∙_, ap}
+use mathlib.Core.List.{List, [], _∷_, _++_}
+use Prim.Native.Nat.{ℕ, zero, suc, _+_, _-_, _^_, _≤_, _<_}
+use native.Mathlib.Omega.{arith}
+use native.Mathlib.Numerals.{add-one}
+use lib.ListN.{length, take, drop, set, List·getD-append}
+use lib.Dec.{T, le→leb}
+use lib.IntN.{pos}
+use lib.Ieee.{Float, nan, binary64, ofInt, inFloat}
+use Rattle.number.specs.F64.{_⊕_, _⊖_, _⊗_, _⊘_, _‼_, 0f, 1f}
+use Rattle.number.specs.Lists.{over}
+use Rattle.number.proofs.Lists.{left-next, left-none, back-turn, over-more}
+use Rattle.vectors.specs.Vectors.{sumFrom, grown}
+use Rattle.vectors.proofs.VectorLaws.{sum-same, length-grown, grown-more}
+use Rattle.cepstrum.specs.Cepstrum.{unwarped, b2mcOf, onward, pass, passes, irTerm, irEntry}
+
+module _ (a : Float) (c out : List Float) (i : ℕ) (same : length out ≡ length c) where
+  -- the last entry stays
+  pub unwarped-last : i + 1 ≡ length c → drop i (set out i (c ‼ i)) ≡ unwarped a (drop i c)
+  unfolding unwarped
+  unwarped-last h = rw (back-turn out i (c ‼ i) (omega arith), left-next c i nan (omega arith), left-none out (i + 1) (omega arith), left-none c (i + 1) (omega arith)) refl
+
+  -- one more, in front
+  pub unwarped-turn : i + 1 < length c → drop (i + 1) out ≡ unwarped a (drop (i + 1) c) → drop i (set out i (c ‼ i ⊖ a ⊗ out ‼ (i + 1))) ≡ unwarped a (drop i c)
+  unfolding unwarped
+  unwarped-turn h e = rw (back-turn out i (c ‼ i ⊖ a ⊗ out ‼ (i + 1)) (omega arith), left-next c i nan (omega arith), ← e, left-next out (i + 1) nan (omega arith)) refl
+
+  pub b2mc-last : i + 1 ≡ length c → drop i (set out i (c ‼ i)) ≡ b2mcOf a (drop i c)
+  unfolding b2mcOf
+  b2mc-last h = rw (back-turn out i (c ‼ i) (omega arith), left-next c i nan (omega arith), left-none out (i + 1) (omega arith), left-none c (i + 1) (omega arith)) refl
+
+  pub b2mc-turn : i + 1 < length c → drop (i + 1) out ≡ b2mcOf a (drop (i + 1) c) → drop i (set out i (c ‼ i ⊕ a ⊗ c ‼ (i + 1))) ≡ b2mcOf a (drop i c)
+  unfolding b2mcOf
+  b2mc-turn h e = rw (back-turn out i (c ‼ i ⊕ a ⊗ c ‼ (i + 1)) (omega arith), e, left-next c i nan (omega arith), left-next c (i + 1) nan (omega arith)) refl
+
+-- a pass: the first two entries, and then onward
+pub pass-two : (a x : Float) (g : List Float) → 2 ≤ length g → let new = (1f ⊖ a ⊗ a) ⊗ g ‼ 0 ⊕ a ⊗ g ‼ 1 in
+    let two = set (set g 0 (x ⊕ a ⊗ g ‼ 0)) 1 new in take 2 two ++ onward a (g ‼ 1) new (drop 2 two) ≡ pass a x g
+unfolding pass
+pass-two a x [] h = absurd (omega arith)
+pass-two a x (g ∷ []) h = absurd (omega arith)
+pass-two a x (g ∷ g′ ∷ gs) h = refl
+
+-- the passes that are left, one on
+pub passes-turn : (a : Float) (c : List Float) (i : ℕ) (g : List Float) → i < length c → passes a (drop (i + 1) c) (pass a (c ‼ i) g) ≡ passes a (drop i c) g
+unfolding passes
+passes-turn a c i g h = rw (left-next c i nan h) refl
+
+pub passes-done : (a : Float) (c : List Float) (i : ℕ) (g : List Float) → length c ≤ i → passes a (drop i c) g ≡ g
+unfolding passes
+passes-done a c i g h = rw (left-none c i h) refl
+
+-- a small number is a float
+pub small-float : (k : ℕ) → k ≤ 2 ^ 53 → T (inFloat binary64 (pos k))
+unfolding inFloat
+small-float k h = le→leb k (2 ^ 53) h
+
+-- ---- the impulse response grows in an array: its sums read what is made so far
+ir-reads : (c d : List Float) (n : ℕ) → 1 ≤ n → sumFrom (irTerm c (over (grown (irEntry c) n) n d) n) 1 n 0f ≡ sumFrom (irTerm c (grown (irEntry c) n) n) 1 n 0f
+ir-reads c d n h =
+    let l = grown (irEntry c) n in
+    sum-same (irTerm c (over l n d) n) (irTerm c l n) 1 n 0f (λ i a b. ap (λ (y : Float). ofInt binary64 (pos i) ⊗ c ‼ i ⊗ y) (List·getD-append l (drop n d) nan (n - i) (omega (arith, length-grown (irEntry c) n))))
+
+later : (c l : List Float) (n : ℕ) → 1 ≤ n → sumFrom (irTerm c l n) 1 n 0f ⊘ ofInt binary64 (pos n) ≡ irEntry c l n
+later c l zero h = absurd (omega arith)
+later c l (suc n) h = refl
+
+pub ir-turn : (c ir d : List Float) (n : ℕ) → 1 ≤ n → n < length d → ir ≡ over (grown (irEntry c) n) n d
+    → set ir n (sumFrom (irTerm c ir n) 1 n 0f ⊘ ofInt binary64 (pos n)) ≡ over (grown (irEntry c) (n + 1)) (n + 1) d
+ir-turn c ir d n h k e =
+    rw (e, ir-reads c d n h, later c (grown (irEntry c) n) n h, grown-more (irEntry c) n) (over-more (grown (irEntry c) n) d n (irEntry c (grown (irEntry c) n) n) (length-grown (irEntry c) n) k)

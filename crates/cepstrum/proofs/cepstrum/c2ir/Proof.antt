@@ -1,0 +1,101 @@
+-- `c2ir` meets its contract: the first n entries are made. Assumes nothing.
+use mathlib.Core.Path.{_≡_, refl, sym, ap, _∙_}
+use mathlib.Core.List.{List}
+use Prim.Native.Nat.{_-_, _≤_}
+use native.Mathlib.Omega.{arith}
+use lib.ListN.{length, length-set, set, replicate}
+use lib.Ieee.{Float, binary64, ofInt}
+use lib.IntN.{pos}
+use Rattle.number.specs.F64.{0f, _⊘_}
+use Rattle.number.specs.Lists.{over}
+use Rattle.number.proofs.Lists.{over-end}
+use Rattle.vectors.specs.Vectors.{grown}
+use Rattle.cepstrum.specs.Cepstrum.{irEntry, c2irOf}
+use Rattle.cepstrum.proofs.CepstrumLaws.{small-float, ir-turn}
+use borrow.Author.Needs.{needs}
+use Rattle.cepstrum.proofs.cepstrum.c2ir.Statement.{statement}
+use Rattle.cepstrum.proofs.cepstrum.c2ir.Tie as tie
+use Rattle.cepstrum.proofs.cepstrum.ir_sum.Reads as ir-sum-reads
+use Rattle.exponential.proofs.exp.Reads as exp-reads
+
+-- `c2ir` meets its contract: the first n entries are made. Assumes nothing.
+
+abbrev Inv-loop : tie.InvT-loop
+Inv-loop c ir₀ n₀ ir n = (1 ≤ n) × (n ≤ 576) × (length ir ≡ 576) × (ir ≡ over (grown (irEntry c) n) n (replicate 576 0f))
+
+abbrev μ-loop : tie.MeasureT-loop
+μ-loop c ir₀ n₀ ir n = 576 - n
+
+element-copy-out-exp : tie.Need-element-copy-out-exp Inv-loop μ-loop
+element-copy-out-exp c = search needs
+
+exp-requires : tie.Need-exp-requires Inv-loop μ-loop
+exp-requires c κs = search needs
+
+array-write-ir : tie.Need-array-write-ir Inv-loop μ-loop
+array-write-ir c = search needs
+
+loop-holds : tie.Need-loop-holds Inv-loop μ-loop
+unfolding grown
+loop-holds c =
+    let x = c .before .before .args .c .now in
+    (omega arith, omega arith, refl, ap (λ (y : Float). set (replicate 576 0f) 0 y) (c .exp .ensures .0))
+
+slice-aggregate-ir-sum : tie.Need-slice-aggregate-ir-sum Inv-loop μ-loop
+slice-aggregate-ir-sum c = search needs
+
+ir-sum-requires : tie.Need-ir-sum-requires Inv-loop μ-loop
+ir-sum-requires c κs = search needs
+
+int-to-float-ir : tie.Need-int-to-float-ir Inv-loop μ-loop
+int-to-float-ir c = small-float _ (omega arith)
+
+mul-ir : tie.Need-mul-ir Inv-loop μ-loop
+mul-ir c = search needs
+
+array-write-ir-2 : tie.Need-array-write-ir-2 Inv-loop μ-loop
+array-write-ir-2 c = search needs
+
+add-n : tie.Need-add-n Inv-loop μ-loop
+add-n c = search needs
+
+loop-less : tie.Need-loop-less Inv-loop μ-loop
+loop-less c = search needs
+
+loop-again : tie.Need-loop-again Inv-loop μ-loop
+loop-again c =
+    let top = c .before .before .before .before .before in
+    let x = top .before .before .before .args .c .now in
+    let ir = top .loop .ir in
+    let n = top .loop .n in
+    let turn = ir-turn x ir (replicate 576 0f) n (omega arith) (omega arith) (top .loop .inv .3) in
+    (omega arith, omega arith, length-set ir n _ ∙ top .loop .inv .2, ap (λ (y : Float). set ir n (y ⊘ ofInt binary64 (pos n))) (c .before .ir-sum .ensures) ∙ turn)
+
+returns : tie.Need-returns Inv-loop μ-loop
+unfolding c2irOf
+returns c =
+    let top = c .before in
+    let x = top .before .before .before .args .c .now in
+    let n = top .loop .n in
+    let e : n ≡ 576 = omega arith in
+    top .loop .inv .3 ∙ over-end (grown (irEntry x) n) (replicate 576 0f) n (omega arith) ∙ rw e refl
+
+pub c2ir-spec : {M : Type 1} → statement M
+c2ir-spec =
+    tie.close
+    (tie.spec
+    Inv-loop
+    μ-loop
+    element-copy-out-exp
+    exp-requires
+    array-write-ir
+    loop-holds
+    slice-aggregate-ir-sum
+    ir-sum-requires
+    int-to-float-ir
+    mul-ir
+    array-write-ir-2
+    add-n
+    loop-less
+    loop-again
+    returns)

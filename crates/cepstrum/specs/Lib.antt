@@ -1,0 +1,2 @@
+pub mod Cepstrum
+pub mod Examples

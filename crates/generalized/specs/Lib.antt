@@ -1,0 +1,2 @@
+pub mod Generalized
+pub mod Examples

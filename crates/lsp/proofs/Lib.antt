@@ -1,0 +1,2 @@
+mod LatticeLaws
+mod LspLaws

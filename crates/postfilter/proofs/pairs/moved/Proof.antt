@@ -1,0 +1,13 @@
+-- `moved` meets its contract. Assumes nothing.
+use mathlib.Core.Path.{refl}
+use Rattle.postfilter.specs.Pairs.{movedOf}
+use borrow.Author.Needs.{needs}
+use Rattle.postfilter.proofs.pairs.moved.Statement.{statement}
+use Rattle.postfilter.proofs.pairs.moved.Tie as tie
+
+returns : tie.Need-returns
+unfolding movedOf
+returns c = refl
+
+pub moved-spec : {M : Type 1} → statement M
+moved-spec = tie.close (tie.spec returns)

@@ -1,0 +1,2 @@
+pub mod Mel
+pub mod Pairs

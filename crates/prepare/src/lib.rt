@@ -1,0 +1,3 @@
+// Preparing a frame's spectrum: its targets, and for the first frame the start coefficients, one function for each kind.
+pub mod mel;
+pub mod pairs;

@@ -1,0 +1,2 @@
+pub mod Stability
+pub mod Examples
