@@ -20,18 +20,18 @@ TEXT
     chmod +x "$view/on/$machine/toolchain/bin/clang"
 }
 
-# Proves `exports` and writes libexports.a for this processor to folder $1. Only the module's target is
+# Proves the crate $2 and writes its archive for this processor to folder $1. Only the module's target is
 # changed. Sums and products stay apart (no contraction), as in the x86-64 code.
 native_archive() {
-    local out=$1 kit clang kept=$work/module
+    local out=$1 name=$2 kit clang kept=$work/module
     kit=$(dirname "$(dirname "$(readlink -f "$(command -v rt)")")")
     clang=$kit/on/$(uname -m)/toolchain/bin/clang
     lay_out_kit "$kit" "$work/kit" "$kept"
-    (cd "$root" && RATTLE_HOME=$work/kit rt staticlib exports) >"$work/staticlib.log" 2>&1 || fail "exports is not proved: see target/bench/staticlib.log"
+    (cd "$root" && RATTLE_HOME=$work/kit rt staticlib "$name") >"$work/staticlib.log" 2>&1 || fail "$name is not proved: see target/bench/staticlib.log"
     "$clang" --target=x86_64-unknown-linux-gnu -S -emit-llvm -x ir "$kept/module.bc" -o "$kept/module.ll"
     sed -i -e '/^target /d' -e 's/"target-cpu"="[^"]*"//' "$kept/module.ll"
     mkdir -p "$out"
     "$clang" --target="$(uname -m)-unknown-linux-gnu" -ffp-contract=off -O3 -fPIC -Wno-override-module -c -x ir "$kept/module.ll" -o "$kept/module.o"
-    rm -f "$out/libexports.a"
-    ar rcs "$out/libexports.a" "$kept/module.o"
+    rm -f "$out/lib$name.a"
+    ar rcs "$out/lib$name.a" "$kept/module.o"
 }

@@ -7,10 +7,12 @@ fail() {
     exit 2
 }
 
-# The folder of libexports.a: EXPORTS_DIR, or where `rt staticlib exports` writes it.
+# The folder of libexports.a and libexported.a: EXPORTS_DIR, or where `rt staticlib` writes them.
 archive_folder() {
-    local folder=${EXPORTS_DIR:-$root/target/staticlib}
-    [ -f "$folder/libexports.a" ] || fail "no libexports.a in $folder: run 'rt staticlib exports' in the repository, or set EXPORTS_DIR"
+    local folder=${EXPORTS_DIR:-$root/target/staticlib} name
+    for name in exports exported; do
+        [ -f "$folder/lib$name.a" ] || fail "no lib$name.a in $folder: run 'rt staticlib $name' in the repository, or set EXPORTS_DIR"
+    done
     (cd "$folder" && pwd -P)
 }
 

@@ -1,7 +1,8 @@
 // Reaches libexports.a on a machine whose processor cannot run it: an x86-64 program without a C
 // library, run under an emulator. It reads requests on standard input and answers each on standard
 // output: operation, count, then count inputs (pairs for multiply, add and the powers); count answers.
-// A stretch, a start and an end of the excitation come one a request: the count is that of the words.
+// A stretch, a start and an end of the excitation and the calls on spectra (bridge_spectrum.c) come one a
+// request: the count is that of the words.
 // Every word is 8 bytes, little-endian. The driver's side is src/bridge.rs.
 #include <stddef.h>
 #include <stdint.h>
@@ -26,7 +27,9 @@ Stretch kipawnore_stretch(Pulse pulse, Random random, double *line, size_t nline
 Pulse kipawnore_start(Pulse pulse, _Bool voiced, double period, uint64_t fperiod);
 Pulse kipawnore_end(Pulse pulse);
 
-enum { SQRT, MULTIPLY, ADD, FLOAT_OF, BITS_OF, ROUND_TRIP, EXP, LN, COS, INVERSE_POWER, INVERSE_ROOT, STRETCH, START, END, OPERATIONS };
+size_t spectrum(const uint64_t *inputs, uint64_t *answers);
+
+enum { SQRT, MULTIPLY, ADD, FLOAT_OF, BITS_OF, ROUND_TRIP, EXP, LN, COS, INVERSE_POWER, INVERSE_ROOT, STRETCH, START, END, SPECTRUM, OPERATIONS };
 enum { READ = 0, WRITE = 1, EXIT = 60, MOST = 1 << 16, TAPS = 64, STATE_WORDS = (sizeof(Pulse) + sizeof(Random)) / 8 };
 
 static uint64_t inputs[2 * MOST];
@@ -38,7 +41,7 @@ static long system_call(long number, long a, long b, long c) {
     return result;
 }
 
-static _Noreturn void leave(int status) {
+_Noreturn void leave(int status) {
     for (;;) system_call(EXIT, status, 0, 0);
 }
 
@@ -120,6 +123,7 @@ static size_t answer_all(uint64_t operation, size_t count) {
     switch (operation) {
         case STRETCH: return stretch();
         case START: case END: return start_or_end(operation);
+        case SPECTRUM: return spectrum(inputs, answers);
     }
     size_t words = arity(operation);
     for (size_t i = 0; i < count; i++) answers[i] = answer(operation, inputs + i * words);

@@ -8,12 +8,12 @@ find_emulator() {
         kit=$(dirname "$(dirname "$(readlink -f "$(command -v rt)")")")
     fi
     [ -n "$found" ] || found=$(command -v qemu-x86_64) || found=$kit/on/$(uname -m)/toolchain/bin/qemu-x86_64
-    [ -x "$found" ] || fail "libexports.a is not for this processor, and there is no emulator at $found: set ORACLE_EMULATOR"
+    [ -x "$found" ] || fail "the archives are not for this processor, and there is no emulator at $found: set ORACLE_EMULATOR"
     printf '%s\n' "$found"
 }
 
-# Links libexports.a with the bridge, a small x86-64 program that the driver talks to.
+# Links both archives with the bridge, a small x86-64 program that the driver talks to.
 build_bridge() {
     "${ORACLE_CC:-clang}" --target=x86_64-linux-gnu -fuse-ld=lld -O2 -Wall -Wextra -Werror -ffreestanding -fno-stack-protector \
-        -nostdlib -static -o "$work/bridge" "$here/bridge.c" "$here/memory.c" "$1/libexports.a" || fail "the bridge does not build"
+        -nostdlib -static -o "$work/bridge" "$here"/{bridge,bridge_spectrum,memory}.c "$1"/lib{exports,exported}.a || fail "the bridge does not build"
 }

@@ -5,7 +5,7 @@ use crate::excitation::Excitation;
 use crate::excitation_calls::{kipawnore_end, kipawnore_start, stretch};
 use crate::excitation_structs::{Pulse, Random};
 use crate::generator::Generator;
-use crate::variants::{Variant, Ways};
+use crate::variants::{Variant, Ways, floats, with_bits};
 
 /// The samples of a frame, and the frames of a pass, each pass from a fresh voice on.
 const FRAME: usize = 240;
@@ -60,7 +60,7 @@ fn ours(lpf: &[u64], period: &[u64]) -> u64 {
         pulse = kipawnore_start(pulse, period != 0.0, period, FRAME as u64);
         let after = stretch(pulse, random, &mut line, &lpf, &mut samples);
         (pulse, random) = (kipawnore_end(after.pulse), after.random);
-        with_samples(sum, &samples[..after.made])
+        with_bits(sum, &samples[..after.made])
     })
 }
 
@@ -72,21 +72,11 @@ fn rusts(lpf: &[u64], period: &[u64], get: impl Fn(&mut Excitation, &[f64]) -> f
         excitation.start(period, FRAME);
         samples.fill_with(|| get(&mut excitation, &lpf));
         excitation.end(period);
-        with_samples(sum, &samples)
+        with_bits(sum, &samples)
     })
 }
 
 #[inline(never)]
 fn rust_get(excitation: &mut Excitation, lpf: &[f64]) -> f64 {
     excitation.get(lpf)
-}
-
-fn floats(words: &[u64]) -> Vec<f64> {
-    words.iter().map(|word| f64::from_bits(*word)).collect()
-}
-
-fn with_samples(sum: u64, samples: &[f64]) -> u64 {
-    samples
-        .iter()
-        .fold(sum, |sum, sample| sum.wrapping_add(sample.to_bits()))
 }

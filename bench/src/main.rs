@@ -1,106 +1,85 @@
 //! The benchmark of bench/run: our functions, called through the static library, beside Rust's.
 
 mod cases;
+#[path = "vocoder/excitation.rs"]
 mod excitation;
 mod excitation_calls;
 mod excitation_structs;
 mod excitations;
 mod generator;
 mod inputs;
+mod measure;
+mod preparations;
+mod spectra;
 mod variants;
 
 use cases::Case;
 use generator::Generator;
 use inputs::COUNT;
-use std::hint::black_box;
+use measure::{ROUNDS, STRETCH, Times, measure, ways_agree};
 use std::process::ExitCode;
-use std::time::{Duration, Instant};
-use variants::Variant;
 
 const SEED: u64 = 1;
-const ROUNDS: usize = 31;
-/// A stretch is long against the clock's step and short against what else the machine does.
-const STRETCH: Duration = Duration::from_millis(3);
 
-/// Best and median ns a call, or a sample of the excitation.
-struct Times {
-    best: f64,
-    median: f64,
+/// Cases whose times are given in one unit.
+struct Table {
+    title: String,
+    /// How many ns the unit has.
+    unit: f64,
+    cases: Vec<Case>,
 }
 
 fn main() -> ExitCode {
     let least = STRETCH.as_millis();
-    println!(
-        "ns a call (excitation: a sample); {ROUNDS} interleaved rounds, each way at least {least} ms a round over {COUNT} independent inputs"
-    );
-    println!("ours: called through the static library libexports.a");
+    println!("{ROUNDS} interleaved rounds, each way at least {least} ms a round");
+    println!("ours: called through the static libraries libexports.a and libexported.a");
     println!("Rust, called: through an #[inline(never)] function; Rust, inlined: the plain loop");
-    println!("noise: median/best; ratios: ours/Rust, by best and by median\n");
+    println!("noise: median/best; ratios: ours/Rust, by best and by median");
+    let done = tables(&mut Generator::new(SEED)).iter().all(print_table);
+    ExitCode::from(u8::from(!done))
+}
+
+fn tables(random: &mut Generator) -> [Table; 2] {
+    [
+        Table {
+            title: format!("ns a call, over {COUNT} independent inputs; excitation: ns a sample"),
+            unit: 1.0,
+            cases: cases::all(random),
+        },
+        Table {
+            title: "µs a frame, from its spectrum to its coefficients".to_string(),
+            unit: 1e3,
+            cases: preparations::all(random),
+        },
+    ]
+}
+
+/// Measures and prints case by case. False where the ways of one do not make the same.
+fn print_table(table: &Table) -> bool {
     println!(
-        "{:13} {:26} {:14} {:>8} {:>8} {:>7} {:>11} {:>13}",
-        "function", "inputs", "way", "best", "median", "noise", "ratio best", "ratio median"
+        "\n{}\n{:13} {:26} {:14} {:>8} {:>8} {:>7} {:>11} {:>13}",
+        table.title,
+        "function",
+        "inputs",
+        "way",
+        "best",
+        "median",
+        "noise",
+        "ratio best",
+        "ratio median"
     );
-    for case in cases::all(&mut Generator::new(SEED)) {
-        if !ways_agree(&case) {
+    table.cases.iter().all(|case| {
+        let agree = ways_agree(case);
+        if agree {
+            print_rows(case, &measure(case, table.unit));
+        } else {
             eprintln!(
                 "bench: {} over {}: the sums of the results differ too much, so times say nothing",
                 case.function, case.set
             );
-            return ExitCode::from(1);
         }
-        print_rows(&case, &measure(&case));
-    }
-    ExitCode::SUCCESS
-}
-
-/// Whether the sums of the results' bits are as near to one another as the results may be.
-fn ways_agree(case: &Case) -> bool {
-    let sums = case.variants.map(|way| (way.pass)(&case.left, &case.right));
-    sums.iter().all(|sum| {
-        let away = sum.wrapping_sub(sums[0]) as i64;
-        away.unsigned_abs() <= case.count as u64 * case.steps
+        agree
     })
-}
-
-/// The time of `passes` passes. The inputs are hidden each time, so that no pass is left out.
-fn time(way: Variant, case: &Case, passes: u32) -> Duration {
-    let start = Instant::now();
-    let mut sum: u64 = 0;
-    for _ in 0..passes {
-        sum = sum.wrapping_add((way.pass)(black_box(&case.left), black_box(&case.right)));
-    }
-    black_box(sum);
-    start.elapsed()
-}
-
-/// How many passes fill a stretch.
-fn calibrate(way: Variant, case: &Case) -> u32 {
-    let mut passes = 1;
-    while time(way, case, passes) < STRETCH {
-        passes *= 2;
-    }
-    passes
-}
-
-/// Every round times each way once, one after the other, so that all meet the same machine.
-fn measure(case: &Case) -> Vec<Times> {
-    let passes = case.variants.map(|way| calibrate(way, case));
-    let mut rounds: [Vec<f64>; 3] = Default::default();
-    for _ in 0..ROUNDS {
-        for (index, way) in case.variants.into_iter().enumerate() {
-            let answers = f64::from(passes[index]) * case.count as f64;
-            rounds[index].push(time(way, case, passes[index]).as_nanos() as f64 / answers);
-        }
-    }
-    rounds.into_iter().map(summary).collect()
-}
-
-fn summary(mut rounds: Vec<f64>) -> Times {
-    rounds.sort_by(f64::total_cmp);
-    Times {
-        best: rounds[0],
-        median: rounds[rounds.len() / 2],
-    }
 }
 
 fn print_rows(case: &Case, times: &[Times]) {

@@ -3,7 +3,7 @@
 use std::hint::black_box;
 
 /// One way: its name, and a pass over the inputs. The second words are the other factors of a
-/// product, or one word, the s of a power or the excitation's period; the other functions read none.
+/// product, the s of a power, the excitation's period, or beta and stage; the other functions read none.
 #[derive(Clone, Copy)]
 pub struct Variant {
     pub name: &'static str,
@@ -118,4 +118,15 @@ fn products(left: &[u64], right: &[u64], product: impl Fn(u64, u64) -> u64) -> u
     left.iter()
         .zip(right)
         .fold(0, |sum: u64, (a, b)| sum.wrapping_add(product(*a, *b)))
+}
+
+pub fn floats(words: &[u64]) -> Vec<f64> {
+    words.iter().map(|word| f64::from_bits(*word)).collect()
+}
+
+/// A sum of bits, with those of more floats.
+pub fn with_bits(sum: u64, floats: &[f64]) -> u64 {
+    floats
+        .iter()
+        .fold(sum, |sum, float| sum.wrapping_add(float.to_bits()))
 }

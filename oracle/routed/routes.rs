@@ -3,8 +3,12 @@
 use std::cell::{Cell, RefCell};
 use std::rc::Rc;
 
+/// The size up to which cos has a value, and the largest base of a power; the least is one over that.
+const MOST_ANGLE: f64 = (1 << 20) as f64;
+const MOST_BASE: f64 = (1_u128 << 120) as f64;
+
 /// The function that is asked. The powers carry s: their exponents are -s and -1/s.
-#[derive(Clone, Copy)]
+#[derive(Clone, Copy, Debug)]
 pub enum Function {
     Exp,
     Ln,
@@ -13,7 +17,21 @@ pub enum Function {
     InverseRoot(u64),
 }
 
-/// Gives a function's value at a float: NaN where that is outside.
+impl Function {
+    /// Whether a float is inside, by the bounds of document 01 and not by anyone's answer.
+    pub fn has(self, x: f64) -> bool {
+        match self {
+            Function::Exp => true,
+            Function::Ln => x.is_normal() && x > 0.0,
+            Function::Cos => x.abs() <= MOST_ANGLE,
+            Function::InversePower(_) | Function::InverseRoot(_) => {
+                (1.0 / MOST_BASE..=MOST_BASE).contains(&x)
+            }
+        }
+    }
+}
+
+/// Gives a function's value at a float; where that is outside, any answer will do.
 pub type Answerer = Rc<dyn Fn(Function, f64) -> f64>;
 
 thread_local! {
@@ -31,44 +49,41 @@ pub fn take_outside() -> u64 {
     OUTSIDE.take()
 }
 
-pub(crate) fn exp(x: f64) -> f64 {
+// These are public: the driver takes files of the copy into modules of its own.
+
+pub fn exp(x: f64) -> f64 {
     ask(Function::Exp, x)
 }
 
-/// Public: the driver takes the excitation's file into a module of its own.
 pub fn ln(x: f64) -> f64 {
-    counted(ask(Function::Ln, x))
+    ask(Function::Ln, x)
 }
 
-pub(crate) fn cos(x: f64) -> f64 {
-    counted(ask(Function::Cos, x))
+pub fn cos(x: f64) -> f64 {
+    ask(Function::Cos, x)
 }
 
 /// The power with an exponent that is -s.
-pub(crate) fn inverse_power(a: f64, exponent: f64) -> f64 {
+pub fn inverse_power(a: f64, exponent: f64) -> f64 {
     let s = (-exponent).round();
     assert!(-s == exponent, "the exponent {exponent} is not a whole -s");
-    counted(ask(Function::InversePower(s as u64), a))
+    ask(Function::InversePower(s as u64), a)
 }
 
 /// The power with an exponent that is the float nearest -1/s.
-pub(crate) fn inverse_root(a: f64, exponent: f64) -> f64 {
+pub fn inverse_root(a: f64, exponent: f64) -> f64 {
     let s = (-1.0 / exponent).round();
     assert!(-1.0 / s == exponent, "the exponent {exponent} is no -1/s");
-    counted(ask(Function::InverseRoot(s as u64), a))
+    ask(Function::InverseRoot(s as u64), a)
 }
 
+/// Has the answerer answer, and counts an argument outside.
 fn ask(function: Function, x: f64) -> f64 {
+    if !function.has(x) {
+        OUTSIDE.set(OUTSIDE.get() + 1);
+    }
     ANSWERER.with_borrow(|answerer| {
         let answerer = answerer.as_ref().expect("the driver chose no answerer");
         answerer(function, x)
     })
-}
-
-/// No answer inside is a NaN, so a NaN says that the argument was outside.
-fn counted(answer: f64) -> f64 {
-    if answer.is_nan() {
-        OUTSIDE.set(OUTSIDE.get() + 1);
-    }
-    answer
 }

@@ -5,7 +5,7 @@ use routed::routes::{Answerer, Function};
 use std::cell::RefCell;
 use std::rc::Rc;
 
-/// Our functions: NaN where the argument is outside.
+/// Our functions: NaN exactly where the argument is outside, or where exp is asked of a NaN.
 pub fn our_own(ours: Rc<RefCell<Ours>>) -> Answerer {
     Rc::new(move |function, x| {
         let bits = x.to_bits();
@@ -17,7 +17,12 @@ pub fn our_own(ours: Rc<RefCell<Ours>>) -> Answerer {
             Function::InversePower(s) => ours.answers(Operation::InversePower, &[bits, s]),
             Function::InverseRoot(s) => ours.answers(Operation::InverseRoot, &[bits, s]),
         };
-        f64::from_bits(answers[0])
+        let answer = f64::from_bits(answers[0]);
+        assert!(
+            answer.is_nan() == (x.is_nan() || !function.has(x)),
+            "{function:?} of {x:e}: ours answers {answer:e}"
+        );
+        answer
     })
 }
 

@@ -2,16 +2,19 @@
 
 use crate::excitation_structs::Pulse;
 use crate::ours::Operation;
+use crate::spectrum;
 use crate::stretches::{Outcome, Request};
 use std::io::{Read, Result, Write};
 use std::process::{Child, ChildStdin, ChildStdout, Command, Stdio};
 
-/// The excitation's functions, under the bridge's numbers. A request is one call.
+/// The excitation's functions and, under one number, those on spectra: the bridge's numbers. A request is
+/// one call.
 #[derive(Clone, Copy)]
 enum Call {
     Stretch = 11,
     Start = 12,
     End = 13,
+    Spectrum = 14,
 }
 
 pub struct Bridge {
@@ -57,6 +60,13 @@ impl Bridge {
 
     pub fn end(&mut self, pulse: Pulse) -> Pulse {
         self.pulse(Call::End, &pulse.words())
+    }
+
+    pub fn spectrum(&mut self, request: &spectrum::Request) -> spectrum::Outcome {
+        let lengths = request.lengths();
+        let answers = 1 + lengths.iter().sum::<usize>();
+        let words = self.call(Call::Spectrum, &request.words(), answers);
+        spectrum::Outcome::read(&mut words.into_iter(), lengths).expect("words enough")
     }
 
     fn pulse(&mut self, call: Call, inputs: &[u64]) -> Pulse {

@@ -5,7 +5,7 @@ use crate::answerers::our_own;
 use crate::excitation_structs::{Pulse, Random};
 use crate::excitation_values::{NEVER, any_noise, floats};
 use crate::generator::Generator;
-use crate::hex_words::{print_words, read_words};
+use crate::hex_words::{print_list, print_words, read_words};
 use crate::ours::Ours;
 use crate::routes;
 use crate::rusts_excitation::Rusts;
@@ -15,9 +15,6 @@ use std::rc::Rc;
 
 /// The list never changes by itself: its random values come from this seed.
 const LIST_SEED: u64 = 1;
-
-/// A program takes an input of fewer bytes than these; a word is a line of 17.
-const MOST_WORDS: usize = 65_535 / 17;
 
 /// nlpf; how many samples; how many values of the noise are taken; pitch, counter, increment. Of the 64
 /// values, those taken and the samples say whether a filling comes at once, within, or not at all.
@@ -62,8 +59,7 @@ pub fn print_requests() {
     requests.extend(PLAIN.map(|case| request(case, NEVER, &mut random)));
     requests.extend(ODD.map(|case| odd(request(case, 8, &mut random))));
     let words: Vec<u64> = requests.iter().flat_map(Request::words).collect();
-    assert!(words.len() <= MOST_WORDS, "the list is too long");
-    print_words(&words);
+    print_list(&words);
 }
 
 fn fresh(count: usize, pulse: [f64; 3]) -> Request {

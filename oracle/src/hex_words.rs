@@ -2,6 +2,15 @@
 
 use std::io::BufRead;
 
+/// A program takes an input of fewer bytes than these; a word is a line of 17.
+const MOST_WORDS: usize = 65_535 / 17;
+
+/// Prints a list for a program to read.
+pub fn print_list(words: &[u64]) {
+    assert!(words.len() <= MOST_WORDS, "the list is too long");
+    print_words(words);
+}
+
 pub fn print_words(words: &[u64]) {
     for word in words {
         println!("{word:016x}");

@@ -9,6 +9,8 @@ mod compare_bits;
 mod compare_excitation;
 mod compare_excitation_states;
 mod compare_frames;
+mod compare_spectrum;
+mod compare_spectrum_numbers;
 mod compare_sqrt;
 mod compare_wrapping;
 mod comparison;
@@ -27,9 +29,19 @@ mod hex_words;
 #[cfg(feature = "linked")]
 mod linked;
 mod ours;
+mod pairs_values;
 mod roots;
 mod rusts_excitation;
+mod rusts_spectrum;
 mod sides;
+mod spectra;
+mod spectra_cases;
+mod spectrum;
+#[cfg(feature = "linked")]
+mod spectrum_calls;
+mod spectrum_cases;
+mod spectrum_tally;
+mod spectrum_values;
 mod stretches;
 
 use bridge::Bridge;
@@ -41,22 +53,17 @@ use std::process::ExitCode;
 use std::rc::Rc;
 
 const SEED: u64 = 1;
-const USAGE: &str = "usage: oracle patterns | roots | excitations, or, with our functions linked in or behind a bridge, \
-                     oracle compare|frames|stretches [EMULATOR BRIDGE]";
+const USAGE: &str = "usage: oracle patterns | roots | excitations | spectra, or, with our functions linked in or behind a \
+                     bridge, oracle compare|frames|stretches|prepared [EMULATOR BRIDGE]";
 
 fn main() -> ExitCode {
     let words: Vec<String> = std::env::args().skip(1).collect();
     let words: Vec<&str> = words.iter().map(String::as_str).collect();
     let done = match words[..] {
-        ["patterns"] => {
-            roots::print_patterns();
-            Ok(true)
-        }
+        ["patterns"] => printed(roots::print_patterns),
         ["roots"] => roots::print_roots().map(|()| true),
-        ["excitations"] => {
-            excitations::print_requests();
-            Ok(true)
-        }
+        ["excitations"] => printed(excitations::print_requests),
+        ["spectra"] => printed(spectra::print_requests),
         #[cfg(feature = "linked")]
         [what] => with(what, Ours::Linked, "linked into the driver"),
         [what, emulator, bridge] => Bridge::open(emulator, bridge)
@@ -72,6 +79,11 @@ fn main() -> ExitCode {
             ExitCode::from(2)
         }
     }
+}
+
+fn printed(print: fn()) -> Result<bool, String> {
+    print();
+    Ok(true)
 }
 
 /// The seed of the random inputs: ORACLE_SEED, or a fixed one.
@@ -96,6 +108,7 @@ fn with(what: &str, ours: Ours, reached: &str) -> Result<bool, String> {
     match what {
         "compare" | "frames" => compare(what, &ours, reached),
         "stretches" => excitations::print_outcomes(ours).map(|()| true),
+        "prepared" => spectra::print_outcomes(ours).map(|()| true),
         _ => Err(USAGE.to_string()),
     }
 }
@@ -114,6 +127,7 @@ fn compare(what: &str, ours: &Rc<RefCell<Ours>>, reached: &str) -> Result<bool, 
             equal &= comparison(&mut ours.borrow_mut(), seed);
         }
         equal &= compare_excitation::run(ours, seed);
+        equal &= compare_spectrum::run(ours, seed);
     }
     let folder = announcement_folder();
     if folder.is_none() {

@@ -1,4 +1,4 @@
-//! Our functions: linked in from libexports.a (feature `linked`), or asked of the bridge where this
+//! Our functions: linked in from libexports.a and libexported.a (feature `linked`), or asked of the bridge where this
 //! processor cannot run the archive.
 
 use crate::bridge::Bridge;
@@ -7,6 +7,9 @@ use crate::excitation_calls::{kipawnore_end, kipawnore_start};
 use crate::excitation_structs::Pulse;
 #[cfg(feature = "linked")]
 use crate::linked;
+use crate::spectrum;
+#[cfg(feature = "linked")]
+use crate::spectrum_calls;
 use crate::stretches::{Outcome, Request};
 
 /// The most inputs in one block; the bridge has room for as many.
@@ -81,6 +84,14 @@ impl Ours {
             #[cfg(feature = "linked")]
             Ours::Linked => kipawnore_end(pulse),
             Ours::Bridge(bridge) => bridge.end(pulse),
+        }
+    }
+
+    pub fn spectrum(&mut self, request: &spectrum::Request) -> spectrum::Outcome {
+        match self {
+            #[cfg(feature = "linked")]
+            Ours::Linked => spectrum_calls::outcome(request),
+            Ours::Bridge(bridge) => bridge.spectrum(request),
         }
     }
 }

@@ -125,11 +125,11 @@ impl Outcome {
     }
 }
 
-fn bits(floats: &[f64]) -> impl Iterator<Item = u64> {
+pub fn bits(floats: &[f64]) -> impl Iterator<Item = u64> {
     floats.iter().map(|x| one_nan(x.to_bits()))
 }
 
-fn floats(words: &mut impl Iterator<Item = u64>, count: usize) -> Option<Vec<f64>> {
+pub fn floats(words: &mut impl Iterator<Item = u64>, count: usize) -> Option<Vec<f64>> {
     (0..count)
         .map(|_| words.next().map(f64::from_bits))
         .collect()

@@ -67,6 +67,10 @@ irEntry c ir (suc i) = sumFrom (irTerm c ir (suc i)) 1 (suc i) 0f ⊘ ofInt bina
 unfoldable pub c2irOf : ℕ → List Float → List Float
 c2irOf n c = grown (irEntry c) n
 
--- THE ENERGY of coefficients: of the impulse response, all on 576 numbers
+-- the energy of the impulse response, all on n numbers
+unfoldable pub energyOn : ℕ → Float → List Float → Float
+energyOn n alpha b = energyOf (c2irOf n (freqtOf (− alpha) n (b2mcOf alpha b)))
+
+-- THE ENERGY of coefficients: on 576 numbers
 unfoldable pub b2enOf : Float → List Float → Float
-b2enOf alpha b = energyOf (c2irOf 576 (freqtOf (− alpha) 576 (b2mcOf alpha b)))
+b2enOf alpha b = energyOn 576 alpha b

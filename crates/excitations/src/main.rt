@@ -32,8 +32,8 @@ fn replay_case(text: &[u8], at: usize, line: &mut [f64], lpf: &mut [f64], out: &
 {
     let pulse = read::pulse(text, at + 17 * 2);
     let random = read::random(text, at + 17 * 6);
-    read::floats(text, at + 17 * 72, line);
-    read::floats(text, at + 17 * (72 + line.len()), lpf);
+    words::floats(text, at + 17 * 72, line);
+    words::floats(text, at + 17 * (72 + line.len()), lpf);
     let filled = excitation::stretch(pulse, random, line, lpf, out);
     let made = filled.made;
     words::print_word(made as u64);

@@ -33,3 +33,8 @@ no-gain-outside = refl
 pub four-entries : gc2gcOf 1 4 (1f ∷ 2f ∷ 1f ∷ 1f ∷ []) ≡ 1f ∷ 2f ∷ 1f ∷ 1f ∷ []
 unfolding gc2gcOf grown gc2gcEntry sumFrom gammaOf ofBits ofInt add sub mul div neg
 four-entries = refl
+
+-- at stage 2. In exact numbers both sums of an entry are equal; here they round differently, and the last entry comes to -1
+pub sums-round : mgc2mgcOf 2 5 (1f ∷ ½f ∷ ½f ∷ fin false 4503599627370497 (pos 1) ∷ 0f ∷ []) ≡ inside (fin false 1 (pos 0) ∷ fin false 1 (negsuc 0) ∷ fin false 1 (negsuc 0) ∷ fin false 4503599627370497 (pos 1) ∷ fin true 1 (pos 0) ∷ [])
+unfolding mgc2mgcOf gnormOf inversePowerOf ignormOf ignormedBy inverseRootOf rootOfPattern digits products gc2gcOf grown gc2gcEntry sumFrom gammaOf ofBits ofInt toBits add sub mul div neg lt le eq
+sums-round = refl

@@ -1,2 +1,3 @@
 pub mod Mel
 pub mod Pairs
+pub mod Examples

@@ -1,1 +1,2 @@
 pub mod Preparing
+pub mod Examples

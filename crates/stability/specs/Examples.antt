@@ -24,3 +24,13 @@ item-7 = refl
 pub item-7-bits : leastGap 2 ≡ ofBits binary64 0x3fd9_21fb_5444_2d18
 unfolding leastGap ofBits ofInt mul div
 item-7-bits = refl
+
+-- the Rust's answers too: of [0, 1, 1, 1] the gaps are repaired in four passes, and each pass changes something
+pub four-passes : stableOf (0f ∷ 1f ∷ 1f ∷ 1f ∷ []) ≡ 0f ∷ fin false 453278542958957 (negsuc 48) ∷ fin false 2250072704859069 (negsuc 50) ∷ fin false 5384425128721693 (negsuc 51) ∷ []
+unfolding stableOf passesOf passOf gaps gap lowEnd highEnd leastGap ofBits ofInt mul div sub add neg lt
+four-passes = refl
+
+-- of [0, 3] the last entry becomes PI less the least gap
+pub high-end : stableOf (0f ∷ fin false 3 (pos 0) ∷ []) ≡ 0f ∷ fin false 6189958033024885 (negsuc 50) ∷ []
+unfolding stableOf passesOf passOf gaps lowEnd highEnd leastGap ofBits ofInt mul div sub add neg lt
+high-end = refl

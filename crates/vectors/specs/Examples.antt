@@ -18,6 +18,11 @@ pub three-squares : energyOf (½f ∷ 1f ∷ 2f ∷ []) ≡ fin false 21 (negsuc
 unfolding energyOf sumFrom add mul ofBits
 three-squares = refl
 
+-- 2^54 + 1 + 1 + 1, whose sum from the far end is larger
+pub squares-in-order : energyOf (fin false 1 (pos 27) ∷ 1f ∷ 1f ∷ 1f ∷ []) ≡ fin false 1 (pos 54)
+unfolding energyOf sumFrom add mul ofBits
+squares-in-order = refl
+
 -- entry i is i more than the one before it: 0, 1, 3, 6
 abbrev next : List Float → ℕ → Float
 next [] i = ofInt binary64 (pos i)

@@ -1,5 +1,5 @@
 // Text of one word a line: sixteen hexadecimal digits, the bits of a number, and a line end.
-ghost use Prim.Native.Nat.{_+_, _≤_, _<_};
+ghost use Prim.Native.Nat.{_+_, _*_, _≤_, _<_};
 ghost use lib.ListN.{length};
 use libc::STDOUT_FILENO;
 
@@ -25,6 +25,24 @@ pub fn word(text: &[u8], at: usize) -> u64
         i += 1;
     }
     n
+}
+
+// The float whose bits the word at `at` spells.
+pub fn float(text: &[u8], at: usize) -> f64
+    requires { ⌜ at + 16 ≤ length (now text) ⌝ }
+{
+    number::bits::float_of(word(text, at))
+}
+
+// Fills the values with the floats of the words from `at` on. Every line is of 17 bytes.
+pub fn floats(text: &[u8], at: usize, values: &mut [f64])
+    requires { ⌜ at + 17 * length (now values) ≤ length (now text) ⌝ }
+{
+    let mut i = 0;
+    while i < values.len() {
+        values[i] = float(text, at + 17 * i);
+        i += 1;
+    }
 }
 
 // Writes b, a line.

@@ -4,7 +4,7 @@ use mathlib.Core.List.{List}
 use lib.Ieee.{Float}
 use Rattle.number.specs.F64.{−_}
 use Rattle.vectors.specs.Vectors.{energyOf}
-use Rattle.cepstrum.specs.Cepstrum.{freqtOf, c2irOf, b2enOf}
+use Rattle.cepstrum.specs.Cepstrum.{freqtOf, c2irOf, energyOn, b2enOf}
 use borrow.Author.Needs.{needs}
 use Rattle.cepstrum.proofs.coefficients.energy_in.Statement.{statement}
 use Rattle.cepstrum.proofs.coefficients.energy_in.Tie as tie
@@ -28,7 +28,7 @@ same-length : tie.Need-same-length
 same-length c = search needs
 
 returns : tie.Need-returns
-unfolding b2enOf
+unfolding b2enOf energyOn
 returns c =
     let freqt = c .before .before .before .before .freqt in
     let b2mc = c .before .before .before .before .before .before .before .before .b2mc in

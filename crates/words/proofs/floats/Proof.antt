@@ -4,8 +4,8 @@ use Prim.Native.Nat.{_≤_, _-_}
 use native.Mathlib.Omega.{arith}
 use lib.ListN.{length, length-set}
 use borrow.Author.Needs.{needs}
-use Rattle.excitations.proofs.read.floats.Statement.{statement}
-use Rattle.excitations.proofs.read.floats.Tie as tie
+use Rattle.words.proofs.floats.Statement.{statement}
+use Rattle.words.proofs.floats.Tie as tie
 
 abbrev Inv-loop : tie.InvT-loop
 Inv-loop text at values₀ i₀ values i = (i ≤ length values₀) × (length values ≡ length values₀)
