@@ -1,13 +1,11 @@
 -- How the definitions go on by one entry. Assumes nothing.
-use mathlib.Core.Path.{_≡_, refl, sym, _∙_, ap}
+use mathlib.Core.Path.{_≡_, refl, ap}
 use mathlib.Core.List.{List, [], _∷_, _++_}
-use Prim.Native.Nat.{ℕ, zero, suc, _+_, _-_, _^_, _≤_, _<_}
+use Prim.Native.Nat.{ℕ, zero, suc, _+_, _-_, _≤_, _<_}
 use native.Mathlib.Omega.{arith}
-use native.Mathlib.Numerals.{add-one}
 use lib.ListN.{length, take, drop, set, List·getD-append}
-use lib.Dec.{T, le→leb}
 use lib.IntN.{pos}
-use lib.Ieee.{Float, nan, binary64, ofInt, inFloat}
+use lib.Ieee.{Float, nan, binary64, ofInt}
 use Rattle.number.specs.F64.{_⊕_, _⊖_, _⊗_, _⊘_, _‼_, 0f, 1f}
 use Rattle.number.specs.Lists.{over}
 use Rattle.number.proofs.Lists.{left-next, left-none, back-turn, over-more}
@@ -50,11 +48,6 @@ passes-turn a c i g h = rw (left-next c i nan h) refl
 pub passes-done : (a : Float) (c : List Float) (i : ℕ) (g : List Float) → length c ≤ i → passes a (drop i c) g ≡ g
 unfolding passes
 passes-done a c i g h = rw (left-none c i h) refl
-
--- a small number is a float
-pub small-float : (k : ℕ) → k ≤ 2 ^ 53 → T (inFloat binary64 (pos k))
-unfolding inFloat
-small-float k h = le→leb k (2 ^ 53) h
 
 -- ---- the impulse response grows in an array: its sums read what is made so far
 ir-reads : (c d : List Float) (n : ℕ) → 1 ≤ n → sumFrom (irTerm c (over (grown (irEntry c) n) n d) n) 1 n 0f ≡ sumFrom (irTerm c (grown (irEntry c) n) n) 1 n 0f

@@ -1,6 +1,6 @@
 -- The definitions at computed points, items 3 to 5 of document 01's numbers to meet among them. Assumes nothing.
 use mathlib.Core.Path.{_≡_, refl}
-use mathlib.Core.List.{List, [], _∷_}
+use mathlib.Core.List.{[], _∷_}
 use mathlib.Core.Bool.{true, false}
 use lib.IntN.{pos, negsuc}
 use lib.Ieee.{Float, fin, ofBits, ofInt, add, sub, mul, div, neg, ne, isNan, lt, eq}

@@ -1,6 +1,6 @@
 -- What the functions under C names answer and leave. Definitions only.
 use mathlib.Core.Bool.{Bool, true, false, _&&_}
-use Prim.Native.Nat.{ℕ, _+_}
+use Prim.Native.Nat.{ℕ}
 use lib.Dec.{leb, eqb}
 use Rattle.elementary.specs.declared.answer.Prepared.{Prepared}
 use Rattle.elementary.specs.declared.answer.Prepared.the-variants as prepared

@@ -1,7 +1,5 @@
 // The tests, and the number of an answer.
 ghost use mathlib.Core.Path.{_≡_};
-ghost use mathlib.Core.Bool.{true};
-ghost use Rattle.elementary.specs.Outcome.{preparedOf};
 ghost use Rattle.exported.specs.Exported.{entriesOf, stageOf, generalizedOf, numberFor};
 use elementary::answer::Prepared;
 

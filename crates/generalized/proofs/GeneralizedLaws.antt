@@ -1,12 +1,11 @@
 -- How the definitions go on by one entry, and what the steps in place come to. Assumes nothing.
-use mathlib.Core.Path.{_≡_, refl, sym, _∙_, ap}
+use mathlib.Core.Path.{_≡_, refl, _∙_, ap}
 use mathlib.Core.List.{List, [], _∷_, _++_, map}
-use Prim.Native.Nat.{ℕ, zero, suc, _+_, _-_, _^_, _≤_, _<_}
+use Prim.Native.Nat.{ℕ, zero, suc, _+_, _-_, _≤_, _<_}
 use native.Mathlib.Omega.{arith}
-use lib.ListN.{length, take, drop, set, List·getD-append, length-append}
-use lib.Dec.{T, le→leb}
+use lib.ListN.{length, take, drop, set, List·getD-append}
 use lib.IntN.{pos}
-use lib.Ieee.{Float, nan, binary64, ofInt, inFloat}
+use lib.Ieee.{Float, nan, binary64, ofInt}
 use Rattle.number.specs.F64.{_⊕_, _⊖_, _⊗_, _⊘_, _‼_, 0f, 1f}
 use Rattle.number.specs.Lists.{over}
 use Rattle.number.proofs.Lists.{over-more}
@@ -17,11 +16,6 @@ use Rattle.elementary.specs.declared.answer.Answer.the-variants as answer
 use Rattle.elementary.specs.Outcome.{Outcome, outside, inside}
 use Rattle.power.specs.Power.{inversePowerOf, inverseRootOf}
 use Rattle.generalized.specs.Generalized.{gammaOf, gnormOf, ignormedBy, ignormOf, gc2gcEntry, gc2gcOf, ss1Term, ss2Term, mgc2mgcOf}
-
--- a small number is a float
-pub small-float : (k : ℕ) → k ≤ 2 ^ 53 → T (inFloat binary64 (pos k))
-unfolding inFloat
-small-float k h = le→leb k (2 ^ 53) h
 
 module _ (k y : Float) (c : List Float) (h : 1 ≤ length c) where
   -- all but the first divided, or multiplied, and the first set

@@ -1,11 +1,11 @@
 -- The definitions at computed points. Assumes nothing.
 use mathlib.Core.Path.{_≡_, refl}
-use mathlib.Core.List.{List, [], _∷_}
+use mathlib.Core.List.{[], _∷_}
 use mathlib.Core.Bool.{true, false}
 use lib.IntN.{pos, negsuc}
-use lib.Ieee.{Float, fin, ofBits, ofInt, toBits, round, add, sub, mul, div, neg, lt, le, eq}
-use Rattle.number.specs.F64.{_⊘_, −_, 0f, ½f, 1f, 2f}
-use Rattle.elementary.specs.Outcome.{Outcome, outside, inside}
+use lib.Ieee.{fin, ofBits, ofInt, toBits, add, sub, mul, div, neg, lt, le, eq}
+use Rattle.number.specs.F64.{0f, ½f, 1f, 2f}
+use Rattle.elementary.specs.Outcome.{outside, inside}
 use Rattle.power.specs.Power.{products, digits, rootOfPattern, inversePowerOf, inverseRootOf}
 use Rattle.vectors.specs.Vectors.{sumFrom, grown}
 use Rattle.generalized.specs.Generalized.{gammaOf, gnormOf, ignormedBy, ignormOf, gc2gcEntry, gc2gcOf, mgc2mgcOf}

@@ -1,5 +1,5 @@
 -- `gnorm` and `ignorm` of generalized.rs, `gc2gc` and `mgc2mgc` of cepstrum.rs, at the gamma of a stage s from 1 to 8. Assumes nothing.
-use mathlib.Core.List.{List, [], _∷_, map}
+use mathlib.Core.List.{List, _∷_, map}
 use Prim.Native.Nat.{ℕ, zero, suc, _-_}
 use lib.IntN.{pos}
 use lib.ListN.{drop}

@@ -2,10 +2,8 @@
 ghost use mathlib.Core.Path.{_≡_};
 ghost use Prim.Native.Nat.{_-_, _≤_, _<_};
 ghost use lib.ListN.{length};
-ghost use Rattle.number.specs.F64.{0f};
 ghost use Rattle.elementary.specs.Outcome.{preparedOf, orElse};
-ghost use Rattle.vectors.specs.Vectors.{sumFrom};
-ghost use Rattle.generalized.specs.Generalized.{gammaOf, gnormOf, ignormedBy, ignormOf, ss1Term, ss2Term, gc2gcEntry, gc2gcOf, mgc2mgcOf};
+ghost use Rattle.generalized.specs.Generalized.{gammaOf, gnormOf, ignormedBy, ignormOf, gc2gcEntry, gc2gcOf, mgc2mgcOf};
 use elementary::answer::Answer;
 use elementary::answer::Prepared;
 

@@ -1,29 +1,23 @@
 -- The weights and the chains, turn by turn. Assumes nothing.
 use mathlib.Core.Path.{_≡_, refl, sym, _∙_, ap}
 use mathlib.Core.List.{List, [], _∷_, _++_, append-nil}
-use mathlib.Core.Bool.{Bool, true, false}
-use Prim.Native.Nat.{ℕ, zero, suc, _+_, _-_, _*_, _/_, _%_, _^_, _≤_, _<_}
+use mathlib.Core.Bool.{Bool}
+use Prim.Native.Nat.{ℕ, zero, suc, _+_, _-_, _*_, _/_, _%_, _≤_, _<_}
 use native.Mathlib.Nat.{le-refl}
 use native.Mathlib.Omega.{arith}
 use native.Mathlib.Numerals.{add-one}
-use lib.Dec.{T, le→leb, eqb}
-use lib.IntN.{pos}
-use lib.Ieee.{Float, nan, binary64, inFloat}
+use lib.Dec.{eqb}
+use lib.Ieee.{Float, nan}
 use lib.ListN.{length, take, drop, set, replicate, length-drop, length-replicate}
 use lib.Seq.{take-all, take-suc-set, drop-set-lt, drop-drop, getD-drop, append-snoc}
 use Rattle.number.specs.F64.{_⊕_, _⊗_, −_, _‼_, 0f, ½f, 1f, 2f}
 use Rattle.number.specs.Lists.{over, row}
-use Rattle.number.proofs.Lists.{left-next, left-none, front-turn, front-end, over-known, over-end}
+use Rattle.number.proofs.Lists.{left-next, left-none, front-turn, front-end, over-known}
 use Rattle.elementary.specs.declared.answer.Answer.{Answer}
 use Rattle.elementary.specs.declared.answer.Answer.the-variants as answer
 use Rattle.elementary.specs.Outcome.{Outcome, outside, inside, _then_, ofAnswer}
 use Rattle.cosine.specs.Cos.{cosOf}
 use Rattle.lsp.specs.Lattice.{everyOther, weightsOf, section, inputs, output, aIn, bIn, predicted, lpcOf, lsp2lpcOf}
-
--- a small number is a float
-pub small-float : (k : ℕ) → k ≤ 2 ^ 53 → T (inFloat binary64 (pos k))
-unfolding inFloat
-small-float k h = le→leb k (2 ^ 53) h
 
 -- ---- every other entry
 

@@ -1,14 +1,13 @@
 -- What each answer makes of `lsp2mgc`. Assumes nothing.
-use mathlib.Core.Path.{_≡_, refl, sym, _∙_, ap}
-use mathlib.Core.List.{List, [], _∷_}
+use mathlib.Core.Path.{_≡_, refl}
+use mathlib.Core.List.{List}
 use mathlib.Core.Bool.{Bool}
-use Prim.Native.Nat.{ℕ, suc, _+_, _≤_}
-use native.Mathlib.Omega.{arith}
+use Prim.Native.Nat.{ℕ}
 use lib.IntN.{pos}
 use lib.Ieee.{Float, binary64, ofInt}
 use lib.ListN.{length, set}
 use Rattle.number.specs.F64.{−_, _‼_}
-use Rattle.elementary.specs.Outcome.{Outcome, outside, inside}
+use Rattle.elementary.specs.Outcome.{outside, inside}
 use Rattle.vectors.specs.Vectors.{energyOf, timesFrom}
 use Rattle.generalized.specs.Generalized.{ignormOf, mgc2mgcOf}
 use Rattle.lsp.specs.Lattice.{lsp2lpcOf}

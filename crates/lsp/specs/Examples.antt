@@ -1,18 +1,17 @@
 -- The definitions at computed points. Assumes nothing.
 use mathlib.Core.Path.{_≡_, refl}
-use mathlib.Core.List.{List, [], _∷_}
+use mathlib.Core.List.{[], _∷_}
 use mathlib.Core.Bool.{true, false}
-use Prim.Native.Nat.{ℕ}
 use lib.IntN.{pos, negsuc}
-use lib.Ieee.{Float, nan, fin, binary64, ofBits, ofInt, toBits, round, add, sub, mul, div, neg, lt, le, eq}
-use Rattle.number.specs.F64.{−_, 0f, ½f, 1f, 2f}
-use Rattle.elementary.specs.Outcome.{Outcome, outside, inside}
+use lib.Ieee.{fin, ofBits, ofInt, toBits, round, add, sub, mul, div, neg, lt, le, eq}
+use Rattle.number.specs.F64.{0f, ½f, 1f, 2f}
+use Rattle.elementary.specs.Outcome.{outside, inside}
 use Rattle.cosine.specs.Cos.{unitsOf, turnsOf, multiple, fold, restOf, alternating, fallOf, floatOf, oneLess, cosInsideOf, cosOf}
 use Rattle.power.specs.Power.{products, digits, rootOfPattern, inversePowerOf, inverseRootOf}
-use Rattle.vectors.specs.Vectors.{sumFrom, energyOf, grown, timesFrom}
+use Rattle.vectors.specs.Vectors.{sumFrom, grown, timesFrom}
 use Rattle.generalized.specs.Generalized.{gammaOf, gnormOf, ignormedBy, ignormOf, gc2gcEntry, gc2gcOf, mgc2mgcOf}
 use Rattle.lsp.specs.Lattice.{everyOther, weightsOf, inputs, output, predicted, lpcOf, lsp2lpcOf}
-use Rattle.lsp.specs.Lsp.{gainOf, lsp2mgcOf, lsp2enOf}
+use Rattle.lsp.specs.Lsp.{gainOf, lsp2mgcOf}
 
 pub entries-apart : everyOther (0f ∷ 1f ∷ 2f ∷ []) ≡ 0f ∷ 2f ∷ []
 unfolding everyOther

@@ -1,5 +1,5 @@
 -- `lsp2mgc` and `lsp2en` of lsp.rs, at a stage s from 1 to 8. Assumes nothing.
-use mathlib.Core.List.{List, [], _∷_}
+use mathlib.Core.List.{List}
 use mathlib.Core.Bool.{Bool, cond}
 use Prim.Native.Nat.{ℕ}
 use lib.IntN.{pos}

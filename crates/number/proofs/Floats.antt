@@ -1,9 +1,11 @@
--- Which floats are the NaN, by a comparison and by cases, and which are finite. Assumes nothing.
+-- Which floats are the NaN, by a comparison and by cases, which are finite, and which numbers are floats. Assumes nothing.
 use mathlib.Core.Path.{_≡_, refl, _∙_, sym, ap}
-use mathlib.Core.Bool.{Bool, true, false, not}
-use Prim.Native.Nat.{_*_}
+use mathlib.Core.Bool.{Bool, true, false, not, _&&_}
+use Prim.Native.Nat.{ℕ, _*_, _^_, _≤_}
+use lib.Dec.{T, le→leb}
+use lib.IntN.{pos}
 use borrow.Author.Tests.{eq-eqb, not-true, not-false}
-use lib.Ieee.{Float, nan, inf, fin, up, down, eq, ne, lt, isNan}
+use lib.Ieee.{Float, nan, inf, fin, binary64, up, down, eq, ne, lt, isNan, inFloat}
 use Rattle.number.specs.Range.{finite, isStrictlyWithin}
 
 -- only the NaN differs from itself
@@ -44,3 +46,17 @@ between-infinities nan = refl
 between-infinities (inf true) = refl
 between-infinities (inf false) = refl
 between-infinities (fin s m e) = refl
+
+-- a whole number up to 2^53 is a float
+pub small-float : (k : ℕ) → k ≤ 2 ^ 53 → T (inFloat binary64 (pos k))
+unfolding inFloat
+small-float k h = le→leb k (2 ^ 53) h
+
+-- where both of two tests are passed, each is
+pub both-first : (a b : Bool) → a && b ≡ true → a ≡ true
+both-first true b e = refl
+both-first false b e = cc
+
+pub both-second : (a b : Bool) → a && b ≡ true → b ≡ true
+both-second true b e = e
+both-second false b e = cc

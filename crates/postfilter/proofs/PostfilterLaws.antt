@@ -1,19 +1,19 @@
 -- What each answer makes of the postfilters. Assumes nothing.
-use mathlib.Core.Path.{_≡_, refl, sym, _∙_, ap}
-use mathlib.Core.List.{List, [], _∷_, _++_}
-use mathlib.Core.Bool.{Bool, true, false, _&&_}
-use Prim.Native.Nat.{ℕ, _+_, _-_, _≤_, _<_}
-use native.Mathlib.Omega.{arith}
+use mathlib.Core.Path.{_≡_, refl}
+use mathlib.Core.List.{List}
+use mathlib.Core.Bool.{Bool, true, false}
+use Prim.Native.Nat.{ℕ, _+_, _-_, _<_}
 use borrow.Author.Tests.{ltb-true}
 use lib.Dec.{ltb}
 use lib.Ieee.{Float, lt, ne}
 use lib.ListN.{length, set}
 use Rattle.number.specs.F64.{_⊕_, _⊗_, _⊘_, _‼_, 0f, ½f, 2f}
 use Rattle.number.specs.Lists.{over}
+use Rattle.number.proofs.Floats.{both-first, both-second}
 use Rattle.number.proofs.Lists.{over-more}
 use Rattle.elementary.specs.declared.answer.Answer.{Answer}
 use Rattle.elementary.specs.declared.answer.Answer.the-variants as answer
-use Rattle.elementary.specs.Outcome.{Outcome, outside, inside, answerOf}
+use Rattle.elementary.specs.Outcome.{outside, inside}
 use Rattle.root.specs.Root.{rootOf}
 use Rattle.logarithm.specs.Ln.{lnOf}
 use Rattle.vectors.specs.Vectors.{grown}
@@ -23,21 +23,13 @@ use Rattle.lsp.specs.Lsp.{lsp2enOf}
 use Rattle.postfilter.specs.Mel.{acts, sharpenedOf, filteredMcp, postfilterMcpOf}
 use Rattle.postfilter.specs.Pairs.{movesOf, spreadEntry, spreadOf, levelled, filteredLsp, postfilterLspOf}
 
-both-true : (a b : Bool) → a && b ≡ true → b ≡ true
-both-true true b e = e
-both-true false b e = cc
-
-first-true : (a b : Bool) → a && b ≡ true → a ≡ true
-first-true true b e = refl
-first-true false b e = cc
-
 -- where they act there are three entries or more
 pub acts-long : (beta : Float) (n : ℕ) → acts beta n ≡ true → 2 < n
-acts-long beta n e = ltb-true 2 n (both-true (lt 0f beta) (ltb 2 n) e)
+acts-long beta n e = ltb-true 2 n (both-second (lt 0f beta) (ltb 2 n) e)
 
 -- an entry that moves has neighbours
 pub moves-between : (i n : ℕ) → movesOf i n ≡ true → (1 < i) × (i < n - 1)
-moves-between i n e = (ltb-true 1 i (first-true (ltb 1 i) (ltb i (n - 1)) e), ltb-true i (n - 1) (both-true (ltb 1 i) (ltb i (n - 1)) e))
+moves-between i n e = (ltb-true 1 i (both-first (ltb 1 i) (ltb i (n - 1)) e), ltb-true i (n - 1) (both-second (ltb 1 i) (ltb i (n - 1)) e))
 
 -- ---- of a mel-cepstrum
 

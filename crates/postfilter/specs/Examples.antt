@@ -1,11 +1,11 @@
 -- The postfilters at computed points. Assumes nothing.
 use mathlib.Core.Path.{_≡_, refl}
-use mathlib.Core.List.{List, [], _∷_}
+use mathlib.Core.List.{[], _∷_}
 use mathlib.Core.Bool.{true, false}
 use lib.IntN.{pos, negsuc}
-use lib.Ieee.{Float, nan, fin, ofBits, add, sub, mul, div, neg, lt, le, ne, eq}
+use lib.Ieee.{nan, fin, ofBits, add, sub, mul, div, neg, lt, le, ne, eq}
 use Rattle.number.specs.F64.{0f, ½f, 1f, 2f}
-use Rattle.elementary.specs.Outcome.{Outcome, outside, inside}
+use Rattle.elementary.specs.Outcome.{outside, inside}
 use Rattle.root.specs.Root.{rootOf, rootOfUnits, unitsOf, nearestRoot, floorRoot}
 use Rattle.logarithm.specs.Ln.{lnOf}
 use Rattle.vectors.specs.Vectors.{grown, timesFrom}

@@ -1,10 +1,10 @@
 -- What each answer makes of preparing. Assumes nothing.
-use mathlib.Core.Path.{_≡_, refl, sym, _∙_, ap}
+use mathlib.Core.Path.{_≡_, refl}
 use mathlib.Core.List.{List}
 use mathlib.Core.Bool.{Bool, true, false, cond}
 use Prim.Native.Nat.{ℕ}
 use lib.Ieee.{Float}
-use Rattle.elementary.specs.Outcome.{Outcome, outside, inside}
+use Rattle.elementary.specs.Outcome.{outside, inside}
 use Rattle.vectors.specs.Vectors.{timesFrom}
 use Rattle.cepstrum.specs.Cepstrum.{mc2bOf}
 use Rattle.generalized.specs.Generalized.{gammaOf, gnormOf}
@@ -12,7 +12,7 @@ use Rattle.lsp.specs.Lsp.{lsp2mgcOf}
 use Rattle.stability.specs.Stability.{stableOf}
 use Rattle.postfilter.specs.Mel.{postfilterMcpOf}
 use Rattle.postfilter.specs.Pairs.{postfilterLspOf}
-use Rattle.prepare.specs.Preparing.{Spectra, startIf, targetsMcp, preparedMcp, coefficientsOf, targetsLsp, preparedLsp}
+use Rattle.prepare.specs.Preparing.{startIf, targetsMcp, preparedMcp, coefficientsOf, targetsLsp, preparedLsp}
 
 -- ---- a mel-cepstrum: the postfilter's outcome decides
 

@@ -1,11 +1,11 @@
 -- Preparing at computed points, item 12 of document 01's numbers to meet among them. Assumes nothing.
 use mathlib.Core.Path.{_≡_, refl}
-use mathlib.Core.List.{List, [], _∷_}
+use mathlib.Core.List.{[], _∷_}
 use mathlib.Core.Bool.{true, false}
-use lib.IntN.{pos, negsuc}
-use lib.Ieee.{Float, nan, fin, ofBits, ofInt, toBits, round, add, sub, mul, div, neg, lt, le, eq, ne}
+use lib.IntN.{pos}
+use lib.Ieee.{fin, ofBits, ofInt, toBits, round, add, sub, mul, div, neg, lt, le, eq, ne}
 use Rattle.number.specs.F64.{0f, ½f, 1f, 2f}
-use Rattle.elementary.specs.Outcome.{Outcome, outside, inside}
+use Rattle.elementary.specs.Outcome.{outside, inside}
 use Rattle.cosine.specs.Cos.{unitsOf, turnsOf, multiple, fold, restOf, alternating, fallOf, floatOf, oneLess, cosInsideOf, cosOf}
 use Rattle.power.specs.Power.{products, digits, rootOfPattern, inversePowerOf, inverseRootOf}
 use Rattle.vectors.specs.Vectors.{sumFrom, energyOf, grown, timesFrom}
@@ -13,10 +13,9 @@ use Rattle.cepstrum.specs.Cepstrum.{unwarped, mc2bOf}
 use Rattle.generalized.specs.Generalized.{gammaOf, gnormOf, ignormedBy, ignormOf, gc2gcEntry, gc2gcOf, mgc2mgcOf}
 use Rattle.lsp.specs.Lattice.{everyOther, weightsOf, inputs, output, predicted, lpcOf, lsp2lpcOf}
 use Rattle.lsp.specs.Lsp.{gainOf, lsp2mgcOf, lsp2enOf}
-use Rattle.stability.specs.Stability.{leastGap, gap, gaps, lowEnd, highEnd, passOf, passesOf, stableOf}
 use Rattle.postfilter.specs.Mel.{postfilterMcpOf}
 use Rattle.postfilter.specs.Pairs.{movedOf, spreadEntry, spreadOf, levelled, filteredLsp, postfilterLspOf}
-use Rattle.prepare.specs.Preparing.{Spectra, targetsMcp, preparedMcp, coefficientsOf, targetsLsp, preparedLsp}
+use Rattle.prepare.specs.Preparing.{targetsMcp, preparedMcp, targetsLsp, preparedLsp}
 
 -- stage 0 without postfilter, as the first frame and as a later one
 pub first-frame : preparedMcp ½f 0f true (0f ∷ 0f ∷ []) (1f ∷ 2f ∷ []) ≡ inside (record { start = fin false 0 (pos 0) ∷ 2f ∷ []; targets = fin false 0 (pos 0) ∷ 2f ∷ [] })

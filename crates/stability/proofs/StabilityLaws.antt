@@ -1,22 +1,15 @@
 -- The passes of the repair, turn by turn. Assumes nothing.
-use mathlib.Core.Path.{_≡_, refl, sym, ap, _∙_}
+use mathlib.Core.Path.{_≡_, refl}
 use mathlib.Core.List.{List}
 use mathlib.Core.Bool.{Bool, true, false}
-use Prim.Native.Nat.{ℕ, zero, suc, _+_, _-_, _^_, _≤_, _<_}
+use Prim.Native.Nat.{ℕ, suc, _+_, _-_, _≤_, _<_}
 use native.Mathlib.Omega.{arith}
 use native.Mathlib.Numerals.{add-one}
-use lib.Dec.{T, le→leb}
-use lib.IntN.{pos}
-use lib.ListN.{length, set}
+use lib.ListN.{set}
 use lib.Seq.{getD-set-other}
-use lib.Ieee.{Float, nan, binary64, inFloat, lt}
+use lib.Ieee.{Float, nan, lt}
 use Rattle.number.specs.F64.{_⊕_, _⊖_, _⊗_, _‼_, ½f}
 use Rattle.stability.specs.Stability.{PI, Repair, gap, gaps, lowEnd, highEnd, passOf, passesOf}
-
--- a small number is a float
-pub small-float : (k : ℕ) → k ≤ 2 ^ 53 → T (inFloat binary64 (pos k))
-unfolding inFloat
-small-float k h = le→leb k (2 ^ 53) h
 
 abbrev pub at : List Float → Bool → Repair
 at lsp find = record { lsp = lsp; find = find }

@@ -1,10 +1,10 @@
 -- The repair at computed points. Assumes nothing.
 use mathlib.Core.Path.{_≡_, refl}
-use mathlib.Core.List.{List, [], _∷_}
-use mathlib.Core.Bool.{true, false}
+use mathlib.Core.List.{[], _∷_}
+use mathlib.Core.Bool.{false}
 use lib.IntN.{pos, negsuc}
 use lib.Ieee.{Float, fin, binary64, ofBits, ofInt, round, add, sub, mul, div, neg, lt}
-use Rattle.number.specs.F64.{0f, ½f, 1f, 2f}
+use Rattle.number.specs.F64.{0f, 1f}
 use Rattle.stability.specs.Stability.{PI, leastGap, gap, gaps, lowEnd, highEnd, passOf, passesOf, stableOf}
 
 -- no float is nearer to P

@@ -1,8 +1,8 @@
 -- Those definitions at computed points. Assumes nothing.
 use mathlib.Core.Path.{_≡_, refl}
 use mathlib.Core.List.{List, [], _∷_}
-use mathlib.Core.Bool.{true, false}
-use Prim.Native.Nat.{ℕ, zero, suc}
+use mathlib.Core.Bool.{false}
+use Prim.Native.Nat.{ℕ}
 use lib.IntN.{pos, negsuc}
 use lib.Ieee.{Float, fin, binary64, ofBits, ofInt, add, mul, div}
 use Rattle.number.specs.F64.{_⊕_, ½f, 1f, 2f}

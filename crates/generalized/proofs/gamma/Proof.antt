@@ -2,8 +2,7 @@
 use mathlib.Core.Path.{refl}
 use native.Mathlib.Omega.{arith}
 use Rattle.generalized.specs.Generalized.{gammaOf}
-use Rattle.generalized.proofs.GeneralizedLaws.{small-float}
-use borrow.Author.Needs.{needs}
+use Rattle.number.proofs.Floats.{small-float}
 use Rattle.generalized.proofs.gamma.Statement.{statement}
 use Rattle.generalized.proofs.gamma.Tie as tie
 

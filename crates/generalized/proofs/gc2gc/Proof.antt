@@ -1,7 +1,6 @@
 -- `gc2gc` meets its contract: the first i entries are made. Assumes nothing.
 use Rattle.generalized.proofs.GeneralizedLaws.{gc2gc-begin, gc2gc-turn}
-use mathlib.Core.Path.{_≡_, refl, sym, ap, _∙_}
-use mathlib.Core.List.{List}
+use mathlib.Core.Path.{_≡_, refl, ap, _∙_}
 use Prim.Native.Nat.{_-_, _≤_}
 use native.Mathlib.Omega.{arith}
 use lib.Ieee.{Float}

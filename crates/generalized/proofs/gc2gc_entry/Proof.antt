@@ -1,13 +1,13 @@
 -- `gc2gc_entry` meets its contract: the terms that are left give what all of them give, in both sums. Assumes nothing.
-use mathlib.Core.Path.{_≡_, refl, sym, ap, _∙_}
+use mathlib.Core.Path.{_≡_, refl, sym, _∙_}
 use Prim.Native.Nat.{_-_, _≤_}
 use native.Mathlib.Omega.{arith}
-use lib.Ieee.{Float}
 use Rattle.number.specs.F64.{0f}
 use Rattle.vectors.specs.Vectors.{sumFrom}
 use Rattle.vectors.proofs.VectorLaws.{sum-turn, sum-done}
 use Rattle.generalized.specs.Generalized.{ss1Term, ss2Term}
-use Rattle.generalized.proofs.GeneralizedLaws.{small-float, entry-later}
+use Rattle.generalized.proofs.GeneralizedLaws.{entry-later}
+use Rattle.number.proofs.Floats.{small-float}
 use borrow.Author.Needs.{needs}
 use Rattle.generalized.proofs.gc2gc_entry.Statement.{statement}
 use Rattle.generalized.proofs.gc2gc_entry.Tie as tie

@@ -1,5 +1,5 @@
 -- `ignorm` meets its contract: the power's answer decides. Assumes nothing.
-use mathlib.Core.Path.{_≡_, refl}
+use mathlib.Core.Path.{refl}
 use Rattle.generalized.proofs.GeneralizedLaws.{ignorm-outside, ignorm-inside}
 use borrow.Author.Needs.{needs}
 use Rattle.generalized.proofs.ignorm.Statement.{statement}

@@ -1,5 +1,5 @@
 -- `energy_in` meets its contract. Assumes nothing.
-use mathlib.Core.Path.{_≡_, refl, sym, ap, _∙_}
+use mathlib.Core.Path.{refl, ap}
 use Rattle.elementary.specs.declared.answer.Answer.the-variants.{Inside}
 use Rattle.elementary.proofs.OutcomeLaws.{is-outside, is-inside}
 use Rattle.lsp.specs.Lsp.{lsp2mgcOf}

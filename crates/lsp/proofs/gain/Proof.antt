@@ -1,5 +1,5 @@
 -- `gain` meets its contract. Assumes nothing.
-use mathlib.Core.Path.{refl, _∙_}
+use mathlib.Core.Path.{refl}
 use Rattle.lsp.specs.Lsp.{gainOf}
 use borrow.Author.Needs.{needs}
 use Rattle.lsp.proofs.gain.Statement.{statement}

@@ -1,14 +1,11 @@
 -- `mgc_in` meets its contract: each answer decides. Assumes nothing.
-use mathlib.Core.Path.{_≡_, refl, sym, ap, _∙_}
-use mathlib.Core.List.{List}
-use Prim.Native.Nat.{_+_, _≤_}
+use mathlib.Core.Path.{_≡_, refl, _∙_}
 use native.Mathlib.Omega.{arith}
-use lib.Ieee.{Float}
 use lib.ListN.{length, set, length-set}
 use Rattle.elementary.proofs.OutcomeLaws.{is-outside, is-inside}
 use Rattle.generalized.specs.Generalized.{ignormOf}
 use Rattle.lsp.specs.Lattice.{lsp2lpcOf}
-use Rattle.lsp.proofs.LatticeLaws.{small-float}
+use Rattle.number.proofs.Floats.{small-float}
 use Rattle.lsp.proofs.LspLaws.{mgc-outside-lpc, mgc-outside-gain, mgc-of}
 use borrow.Author.Needs.{needs}
 use Rattle.lsp.proofs.mgc_in.Statement.{statement}

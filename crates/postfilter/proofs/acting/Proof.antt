@@ -1,6 +1,5 @@
 -- `acting` meets its contract. Assumes nothing.
 use mathlib.Core.Path.{refl}
-use borrow.Author.Needs.{needs}
 use Rattle.postfilter.proofs.acting.Statement.{statement}
 use Rattle.postfilter.proofs.acting.Tie as tie
 

@@ -1,16 +1,17 @@
 -- `check_lsp_stability` meets its contract: the passes, and in a pass the gaps, that are left make what all of them make. Assumes nothing.
 use lib.IntN.{pos}
-use lib.Ieee.{Float, binary64, ofInt}
+use lib.Ieee.{binary64, ofInt}
 use Rattle.number.specs.F64.{_⊗_, _⊘_}
-use Rattle.stability.specs.Stability.{PI, ¼f, Repair}
+use Rattle.stability.specs.Stability.{PI, ¼f}
 use mathlib.Core.Path.{_≡_, refl, sym, ap, _∙_}
-use mathlib.Core.Bool.{Bool, true, false}
+use mathlib.Core.Bool.{false}
 use mathlib.Core.Logic.{⊎-elim}
 use Prim.Native.Nat.{_+_, _-_, _≤_}
 use native.Mathlib.Omega.{arith}
 use lib.ListN.{length, set, length-set}
 use Rattle.stability.specs.Stability.{leastGap, gap, gaps, lowEnd, passOf, passesOf, stableOf}
-use Rattle.stability.proofs.StabilityLaws.{small-float, at, gap-found, gap-stays, low-found, low-stays, high-found, high-stays, gaps-turn, gaps-done, pass-made, pass-found, pass-last, passes-done}
+use Rattle.stability.proofs.StabilityLaws.{at, gap-found, gap-stays, low-found, low-stays, high-found, high-stays, gaps-turn, gaps-done, pass-made, pass-found, pass-last, passes-done}
+use Rattle.number.proofs.Floats.{small-float}
 use borrow.Author.Needs.{needs}
 use borrow.Author.Tests.{not-true, not-false}
 use Rattle.stability.proofs.check_lsp_stability.Statement.{statement}

@@ -1,6 +1,5 @@
 -- `c2ir` meets its contract: the first n entries are made. Assumes nothing.
-use mathlib.Core.Path.{_≡_, refl, sym, ap, _∙_}
-use mathlib.Core.List.{List}
+use mathlib.Core.Path.{_≡_, refl, ap, _∙_}
 use Prim.Native.Nat.{_-_, _≤_}
 use native.Mathlib.Omega.{arith}
 use lib.ListN.{length, length-set, set, replicate}
@@ -11,12 +10,11 @@ use Rattle.number.specs.Lists.{over}
 use Rattle.number.proofs.Lists.{over-end}
 use Rattle.vectors.specs.Vectors.{grown}
 use Rattle.cepstrum.specs.Cepstrum.{irEntry, c2irOf}
-use Rattle.cepstrum.proofs.CepstrumLaws.{small-float, ir-turn}
+use Rattle.cepstrum.proofs.CepstrumLaws.{ir-turn}
+use Rattle.number.proofs.Floats.{small-float}
 use borrow.Author.Needs.{needs}
 use Rattle.cepstrum.proofs.cepstrum.c2ir.Statement.{statement}
 use Rattle.cepstrum.proofs.cepstrum.c2ir.Tie as tie
-use Rattle.cepstrum.proofs.cepstrum.ir_sum.Reads as ir-sum-reads
-use Rattle.exponential.proofs.exp.Reads as exp-reads
 
 -- `c2ir` meets its contract: the first n entries are made. Assumes nothing.
 

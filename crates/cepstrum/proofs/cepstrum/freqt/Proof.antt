@@ -8,7 +8,6 @@ use Rattle.cepstrum.proofs.CepstrumLaws.{passes-turn, passes-done}
 use borrow.Author.Needs.{needs}
 use Rattle.cepstrum.proofs.cepstrum.freqt.Statement.{statement}
 use Rattle.cepstrum.proofs.cepstrum.freqt.Tie as tie
-use Rattle.cepstrum.proofs.cepstrum.pass_in.Reads as pass-in-reads
 
 abbrev Inv-loop : tie.InvT-loop
 Inv-loop c alpha g₀ i₀ g i = (i ≤ length c) × (length g ≡ 576) × (passes alpha (drop i c) g ≡ freqtOf alpha 576 c)

@@ -6,7 +6,7 @@ use Rattle.number.specs.F64.{0f}
 use Rattle.vectors.specs.Vectors.{sumFrom}
 use Rattle.vectors.proofs.VectorLaws.{sum-turn, sum-done}
 use Rattle.cepstrum.specs.Cepstrum.{irTerm}
-use Rattle.cepstrum.proofs.CepstrumLaws.{small-float}
+use Rattle.number.proofs.Floats.{small-float}
 use borrow.Author.Needs.{needs}
 use Rattle.cepstrum.proofs.cepstrum.ir_sum.Statement.{statement}
 use Rattle.cepstrum.proofs.cepstrum.ir_sum.Tie as tie

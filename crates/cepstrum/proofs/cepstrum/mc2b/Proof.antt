@@ -1,11 +1,8 @@
 -- `mc2b` meets its contract: each arm's call says what the definition's test picks. Assumes nothing.
-use mathlib.Core.Path.{refl}
 use Rattle.cepstrum.specs.Cepstrum.{mc2bOf}
 use borrow.Author.Needs.{needs}
 use Rattle.cepstrum.proofs.cepstrum.mc2b.Statement.{statement}
 use Rattle.cepstrum.proofs.cepstrum.mc2b.Tie as tie
-use Rattle.cepstrum.proofs.cepstrum.unwarp.Reads as unwarp-reads
-use Rattle.vectors.proofs.copy.Reads as copy-reads
 
 unwarp-requires : tie.Need-unwarp-requires
 unwarp-requires c κs = search needs

@@ -6,7 +6,6 @@ use Rattle.cepstrum.proofs.CepstrumLaws.{pass-two}
 use borrow.Author.Needs.{needs}
 use Rattle.cepstrum.proofs.cepstrum.pass_in.Statement.{statement}
 use Rattle.cepstrum.proofs.cepstrum.pass_in.Tie as tie
-use Rattle.cepstrum.proofs.cepstrum.onward_in.Reads as onward-in-reads
 
 -- `pass_in` meets its contract: the first two entries, and what `onward_in` makes of the rest. Assumes nothing.
 

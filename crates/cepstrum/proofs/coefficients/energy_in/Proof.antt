@@ -1,7 +1,5 @@
 -- `energy_in` meets its contract: it is the definition's four steps. Assumes nothing.
-use mathlib.Core.Path.{_≡_, ap, _∙_}
-use mathlib.Core.List.{List}
-use lib.Ieee.{Float}
+use mathlib.Core.Path.{ap, _∙_}
 use Rattle.number.specs.F64.{−_}
 use Rattle.vectors.specs.Vectors.{energyOf}
 use Rattle.cepstrum.specs.Cepstrum.{freqtOf, c2irOf, energyOn, b2enOf}

@@ -1,7 +1,6 @@
 -- `stage` meets its contract. Assumes nothing.
 use mathlib.Core.Path.{refl}
 use borrow.Author.Tests.{le-leb, lt-leb}
-use borrow.Author.Needs.{needs}
 use Rattle.exported.proofs.limits.stage.Statement.{statement}
 use Rattle.exported.proofs.limits.stage.Tie as tie
 

@@ -1,5 +1,5 @@
 -- `kipawnore_freqt` meets its contract: a test of the limits, and the function that it calls. Assumes nothing.
-use mathlib.Core.Path.{_≡_, refl, sym, ap, _∙_}
+use mathlib.Core.Path.{refl, sym, _∙_}
 use borrow.Author.Tests.{not-true, not-false, eq-eqb, ne-eqb}
 use borrow.Author.Needs.{needs}
 use Rattle.exported.proofs.mel.kipawnore_freqt.Statement.{statement}

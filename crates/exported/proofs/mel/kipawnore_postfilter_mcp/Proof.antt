@@ -1,10 +1,8 @@
 -- `kipawnore_postfilter_mcp` meets its contract: a test of the limits, and the function that it calls. Assumes nothing.
-use mathlib.Core.Path.{_≡_, refl, sym, ap, _∙_}
-use native.Mathlib.Omega.{arith}
-use borrow.Author.Tests.{not-true, not-false, eq-eqb, ne-eqb, lt-leb, le-leb}
-use lib.ListN.{length}
+use mathlib.Core.Path.{refl, sym, _∙_}
+use borrow.Author.Tests.{not-true, not-false}
 use Rattle.postfilter.specs.Mel.{postfilterMcpOf}
-use Rattle.exported.proofs.ExportedLaws.{entries-in, stage-in, general-in, number-of, one-entry}
+use Rattle.exported.proofs.ExportedLaws.{entries-in, number-of}
 use borrow.Author.Needs.{needs}
 use Rattle.exported.proofs.mel.kipawnore_postfilter_mcp.Statement.{statement}
 use Rattle.exported.proofs.mel.kipawnore_postfilter_mcp.Tie as tie

@@ -1,10 +1,8 @@
 -- `kipawnore_ignorm` meets its contract: a test of the limits, and the function that it calls. Assumes nothing.
-use mathlib.Core.Path.{_≡_, refl, sym, ap, _∙_}
-use native.Mathlib.Omega.{arith}
-use borrow.Author.Tests.{not-true, not-false, eq-eqb, ne-eqb, lt-leb, le-leb}
-use lib.ListN.{length}
+use mathlib.Core.Path.{refl, sym, _∙_}
+use borrow.Author.Tests.{not-true, not-false}
 use Rattle.generalized.specs.Generalized.{ignormOf}
-use Rattle.exported.proofs.ExportedLaws.{entries-in, stage-in, general-in, number-of, one-entry}
+use Rattle.exported.proofs.ExportedLaws.{general-in, number-of}
 use borrow.Author.Needs.{needs}
 use Rattle.exported.proofs.pairs.kipawnore_ignorm.Statement.{statement}
 use Rattle.exported.proofs.pairs.kipawnore_ignorm.Tie as tie

@@ -1,10 +1,8 @@
 -- `lpc_in` meets its contract: each answer decides, and the chains are at rest. Assumes nothing.
 use mathlib.Core.Path.{_≡_, refl, sym, ap, _∙_}
-use mathlib.Core.List.{List}
 use native.Mathlib.Omega.{arith}
-use lib.Ieee.{Float}
-use lib.ListN.{length, drop, set, length-set, length-replicate}
-use Rattle.number.specs.F64.{0f, 1f}
+use lib.ListN.{length, drop, length-replicate}
+use Rattle.number.specs.F64.{0f}
 use Rattle.elementary.proofs.OutcomeLaws.{is-outside, is-inside}
 use Rattle.lsp.specs.Lattice.{everyOther, weightsOf}
 use Rattle.lsp.proofs.LatticeLaws.{lpc-made, lpc-outside-even, lpc-outside-odd, lpc-inside}

@@ -1,5 +1,5 @@
 -- `filter_in` meets its contract: the answer of ln decides. Assumes nothing.
-use mathlib.Core.Path.{_≡_, refl, sym, ap, _∙_}
+use mathlib.Core.Path.{_≡_, refl, _∙_}
 use native.Mathlib.Omega.{arith}
 use lib.ListN.{length, length-set}
 use Rattle.postfilter.proofs.PostfilterLaws.{mcp-outside, mcp-inside}

@@ -1,5 +1,4 @@
 -- `sharpen` meets its contract. Assumes nothing.
-use mathlib.Core.Path.{_∙_}
 use lib.ListN.{length-set}
 use Rattle.postfilter.specs.Mel.{sharpenedOf}
 use borrow.Author.Needs.{needs}

@@ -1,7 +1,7 @@
 -- `filter_in` meets its contract: each answer decides. Assumes nothing.
-use mathlib.Core.Path.{_≡_, refl, sym, ap, _∙_}
+use mathlib.Core.Path.{_≡_, refl}
 use native.Mathlib.Omega.{arith}
-use lib.ListN.{length, set, length-set}
+use lib.ListN.{length, length-set}
 use Rattle.elementary.proofs.OutcomeLaws.{answer-outside, answer-inside}
 use Rattle.number.specs.F64.{_‼_}
 use Rattle.lsp.specs.Lsp.{lsp2enOf}

@@ -1,6 +1,6 @@
 -- `level` meets its contract. Assumes nothing.
-use mathlib.Core.Path.{_≡_, refl, sym, ap, _∙_}
-use mathlib.Core.Bool.{Bool, not}
+use mathlib.Core.Path.{refl, ap}
+use mathlib.Core.Bool.{not}
 use borrow.Author.Tests.{not-true, not-false}
 use lib.Ieee.{Float, ne}
 use Rattle.number.specs.F64.{_⊗_}

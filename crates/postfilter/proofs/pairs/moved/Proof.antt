@@ -1,7 +1,6 @@
 -- `moved` meets its contract. Assumes nothing.
 use mathlib.Core.Path.{refl}
 use Rattle.postfilter.specs.Pairs.{movedOf}
-use borrow.Author.Needs.{needs}
 use Rattle.postfilter.proofs.pairs.moved.Statement.{statement}
 use Rattle.postfilter.proofs.pairs.moved.Tie as tie
 

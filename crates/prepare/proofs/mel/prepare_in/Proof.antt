@@ -1,5 +1,5 @@
 -- `prepare_in` meets its contract: the postfilter's answer decides. Assumes nothing.
-use mathlib.Core.Path.{_≡_, refl, sym, ap, _∙_}
+use mathlib.Core.Path.{refl}
 use Rattle.elementary.proofs.OutcomeLaws.{is-outside, is-inside}
 use Rattle.postfilter.specs.Mel.{postfilterMcpOf}
 use Rattle.prepare.proofs.PrepareLaws.{mcp-outside, mcp-inside}

@@ -1,7 +1,5 @@
 -- `prepare_in` meets its contract: both answers decide. Assumes nothing.
-use mathlib.Core.Path.{_≡_, refl, sym, ap, _∙_}
-use Prim.Native.Nat.{ℕ}
-use native.Mathlib.Omega.{arith}
+use mathlib.Core.Path.{_≡_, refl, sym, _∙_}
 use lib.ListN.{length}
 use Rattle.elementary.proofs.OutcomeLaws.{is-outside}
 use Rattle.prepare.specs.Preparing.{startIf, coefficientsOf, targetsLsp}

@@ -1,12 +1,12 @@
 -- `start` meets its contract. Assumes nothing.
 use mathlib.Core.Path.{_≡_, refl, sym, ap, _∙_}
-use Prim.Native.Nat.{ℕ, _^_, _≤_}
-use lib.Dec.{T, le→leb}
+use Prim.Native.Nat.{ℕ}
 use mathlib.Core.Logic.{⊎-elim}
 use mathlib.Core.Bool.{true, false, _&&_}
 use lib.IntN.{pos}
-use lib.Ieee.{Float, binary64, inFloat, ofInt}
+use lib.Ieee.{Float, binary64, ofInt}
 use Rattle.number.specs.F64.{_⊖_, _⊘_, 0f}
+use Rattle.number.proofs.Floats.{small-float}
 use Rattle.pulse.specs.declared.Pulse.{Pulse}
 use Rattle.pulse.specs.declared.Pitch.{Pitch}
 use Rattle.pulse.specs.Train.{periodOf, voiced, train, startOf}
@@ -17,12 +17,8 @@ use Rattle.pulse.proofs.Pulse.start.Tie as tie
 period-requires : tie.Need-period-requires
 period-requires c κs = search needs
 
-held : (n : ℕ) → n ≤ 2 ^ 53 → T (inFloat binary64 (pos n))
-unfolding inFloat
-held n h = le→leb n (2 ^ 53) h
-
 int-to-float-t8 : tie.Need-int-to-float-t8
-int-to-float-t8 c = held (c .before .before .before .before .before .before .args .fperiod) (c .before .before .before .before .before .before .pre)
+int-to-float-t8 c = small-float (c .before .before .before .before .before .before .args .fperiod) (c .before .before .before .before .before .before .pre)
 
 -- from one voiced pitch to another, and else
 by-steps : (t : Pulse) (pitch : Pitch) (fperiod : ℕ) → voiced (t .pitch) ≡ true → voiced (periodOf pitch) ≡ true
