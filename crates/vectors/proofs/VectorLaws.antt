@@ -7,8 +7,8 @@ use native.Mathlib.Numerals.{add-one}
 use lib.Ieee.{Float, nan}
 use lib.ListN.{length, take, drop, set, length-append}
 use Rattle.number.specs.F64.{_⊕_, _‼_}
-use Rattle.number.proofs.Lists.{left-none, front-turn, front-end}
-use Rattle.vectors.specs.Vectors.{sumFrom, grown}
+use Rattle.number.proofs.Lists.{left-next, left-none, front-turn, front-end}
+use Rattle.vectors.specs.Vectors.{sumFrom, grown, plus}
 
 -- ---- sums
 
@@ -52,3 +52,16 @@ module _ (f : Float → Float) (l : List Float) (i : ℕ) where
 
   pub map-done : length l ≤ i → take i l ++ map f (drop i l) ≡ l
   map-done h = front-end l (map f (drop i l)) i h (ap (map f) (left-none l i h))
+
+-- ---- two lists, place by place
+
+module _ (l m : List Float) (i : ℕ) where
+  pub plus-turn : i < length l → i < length m
+      → take (i + 1) (set l i (l ‼ i ⊕ m ‼ i)) ++ plus (drop (i + 1) (set l i (l ‼ i ⊕ m ‼ i))) (drop (i + 1) m) ≡ take i l ++ plus (drop i l) (drop i m)
+  unfolding plus
+  plus-turn h k =
+      front-turn (λ r. plus r (drop i m)) (λ r. plus r (drop (i + 1) m)) l i (l ‼ i ⊕ m ‼ i) nan h (rw (left-next m i nan k) refl)
+
+  pub plus-done : length l ≤ i → take i l ++ plus (drop i l) (drop i m) ≡ l
+  unfolding plus
+  plus-done h = front-end l (plus (drop i l) (drop i m)) i h (rw (left-none l i h) refl)

@@ -6,7 +6,7 @@ use Prim.Native.Nat.{ℕ}
 use lib.IntN.{pos, negsuc}
 use lib.Ieee.{Float, fin, binary64, ofBits, ofInt, add, mul, div}
 use Rattle.number.specs.F64.{_⊕_, ½f, 1f, 2f}
-use Rattle.vectors.specs.Vectors.{sumFrom, energyOf, grown, timesFrom, overFrom}
+use Rattle.vectors.specs.Vectors.{sumFrom, energyOf, grown, timesFrom, overFrom, plus}
 
 -- 2^53 + 1 + 1: each 1 is lost where it is added by itself
 pub summed-in-order : sumFrom (λ k. 1f) 0 2 (fin false 1 (pos 53)) ≡ fin false 1 (pos 53)
@@ -40,3 +40,7 @@ from-the-second = refl
 pub divided-from-the-second : overFrom 1 2f (½f ∷ ½f ∷ 1f ∷ []) ≡ ½f ∷ fin false 1 (negsuc 1) ∷ fin false 1 (negsuc 0) ∷ []
 unfolding overFrom div ofBits
 divided-from-the-second = refl
+
+pub place-by-place : plus (½f ∷ 1f ∷ 2f ∷ []) (½f ∷ 2f ∷ []) ≡ fin false 1 (pos 0) ∷ fin false 3 (pos 0) ∷ 2f ∷ []
+unfolding plus add ofBits
+place-by-place = refl

@@ -26,3 +26,9 @@ timesFrom j k l = take j l ++ map (λ x. x ⊗ k) (drop j l)
 
 unfoldable pub overFrom : ℕ → Float → List Float → List Float
 overFrom j k l = take j l ++ map (λ x. x ⊘ k) (drop j l)
+
+-- each entry with the one at its place in the other list added, as far as there are both
+unfoldable pub plus : List Float → List Float → List Float
+plus [] l = []
+plus (x ∷ xs) [] = x ∷ xs
+plus (x ∷ xs) (y ∷ ys) = x ⊕ y ∷ plus xs ys

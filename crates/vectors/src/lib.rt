@@ -1,7 +1,7 @@
 // Slices of floats, whole and from an index on.
 ghost use mathlib.Core.Path.{_≡_};
 ghost use lib.ListN.{length};
-ghost use Rattle.vectors.specs.Vectors.{timesFrom, overFrom, energyOf};
+ghost use Rattle.vectors.specs.Vectors.{timesFrom, overFrom, plus, energyOf};
 
 // Copies one slice into another of its length.
 pub fn copy(from: &[f64], to: &mut [f64])
@@ -33,6 +33,18 @@ pub fn divide_from(c: &mut [f64], first: usize, divisor: f64)
     let mut i = first;
     while i < c.len() {
         c[i] = c[i] / divisor;
+        i += 1;
+    }
+}
+
+// Adds to each entry the one at its place in a slice of the same length.
+pub fn add(c: &mut [f64], other: &[f64])
+    requires { ⌜ length (now other) ≡ length (now c) ⌝ }
+    ensures { λ _. ⌜ now (c .exit) ≡ plus (now (c .entry)) (now (other .entry)) ⌝ }
+{
+    let mut i = 0;
+    while i < c.len() {
+        c[i] += other[i];
         i += 1;
     }
 }

@@ -1,0 +1,46 @@
+-- `sample` meets its contract: gain, filter, coefficients and volume, each as its call says. Assumes nothing.
+use borrow.Author.Needs.{needs}
+use Rattle.filter.proofs.FilterLaws.{zero-sample}
+use Rattle.filter.proofs.zero.sample.Statement.{statement}
+use Rattle.filter.proofs.zero.sample.Tie as tie
+
+gain-requires : tie.Need-gain-requires
+gain-requires c κs = search needs
+
+df-requires : tie.Need-df-requires
+df-requires c κs = search needs
+
+add-requires : tie.Need-add-requires
+add-requires c κs = search needs
+
+same-length : tie.Need-same-length
+same-length c = search needs
+
+same-length-2 : tie.Need-same-length-2
+same-length-2 c = search needs
+
+same-length-3 : tie.Need-same-length-3
+same-length-3 c = search needs
+
+same-length-4 : tie.Need-same-length-4
+same-length-4 c = search needs
+
+same-length-5 : tie.Need-same-length-5
+same-length-5 c = search needs
+
+returns : tie.Need-returns
+returns c = zero-sample _ _ _ _ _ _ _ _ _ _ (c .before .before .before .before .before .before .before .before .before .before .before .before .before .before .before .before .before .before .gain .ensures) (c .before .before .before .before .before .before .before .before .before .before .before .before .df .ensures) (c .before .before .add .ensures)
+
+pub sample-spec : {M : Type 1} → statement M
+sample-spec =
+    tie.close
+    (tie.spec
+    gain-requires
+    df-requires
+    add-requires
+    same-length
+    same-length-2
+    same-length-3
+    same-length-4
+    same-length-5
+    returns)

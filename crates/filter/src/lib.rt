@@ -1,0 +1,3 @@
+// A stretch of excitation samples made into finished samples, in place: gain, filter, coefficients on by their increments, volume.
+pub mod nonzero;
+pub mod zero;

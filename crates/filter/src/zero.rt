@@ -1,0 +1,101 @@
+// Stage 0.
+ghost use mathlib.Core.Path.{_≡_};
+ghost use Prim.Native.Nat.{_*_, _≤_, _<_};
+ghost use lib.ListN.{length};
+ghost use Rattle.history.specs.Through.{passage, through};
+ghost use Rattle.mlsa.specs.Mlsa.{filter};
+ghost use Rattle.filter.specs.Zero.{state, gained, sampleOf};
+use mlsa::MelLogSpectrumApproximation;
+
+// The sample times exp(c[0]), where it is not 0.
+fn gain(x: f64, c: &[f64]) -> f64
+    requires { ⌜ 0 < length (now c) ⌝ }
+    ensures { λ r. ⌜ r ≡ gained (now (c .entry)) x ⌝ }
+{
+    if x != 0.0 {
+        x * exponential::exp(c[0])
+    } else {
+        x
+    }
+}
+
+// One sample.
+fn sample(
+    x: f64,
+    c: &mut [f64],
+    increments: &[f64],
+    alpha: f64,
+    volume: f64,
+    d11: &mut [f64],
+    d12: &mut [f64],
+    d21: &mut [f64],
+    d22: &mut [f64],
+) -> f64
+    requires { ⌜ (2 ≤ length (now c)) × (length (now increments) ≡ length (now c)) × (6 * length (now c) ≤ length (now d21)) ⌝ }
+    requires { ⌜ (length (now d11) ≡ 6) × (length (now d12) ≡ 6) × (length (now d22) ≡ 6) ⌝ }
+    ensures { λ r. ⌜ record { sample = r; state = state (now (c .exit)) (filter (now (d11 .exit)) (now (d12 .exit)) (now (d21 .exit)) (now (d22 .exit))) }
+        ≡ sampleOf alpha volume (now (increments .entry)) (state (now (c .entry)) (filter (now (d11 .entry)) (now (d12 .entry)) (now (d21 .entry)) (now (d22 .entry)))) x ⌝ }
+{
+    let loud = gain(x, c);
+    let y = mlsa::df(d11, d12, d21, d22, loud, alpha, c);
+    vectors::add(c, increments);
+    y * volume
+}
+
+// The samples of a stretch, with the filter's taps lent one by one.
+pub fn stretch_in(
+    samples: &mut [f64],
+    c: &mut [f64],
+    increments: &[f64],
+    alpha: f64,
+    volume: f64,
+    d11: &mut [f64],
+    d12: &mut [f64],
+    d21: &mut [f64],
+    d22: &mut [f64],
+)
+    requires { ⌜ (2 ≤ length (now c)) × (length (now increments) ≡ length (now c)) × (6 * length (now c) ≤ length (now d21)) ⌝ }
+    requires { ⌜ (length (now d11) ≡ 6) × (length (now d12) ≡ 6) × (length (now d22) ≡ 6) ⌝ }
+    ensures { λ _. ⌜ passage (now (samples .exit)) (state (now (c .exit)) (filter (now (d11 .exit)) (now (d12 .exit)) (now (d21 .exit)) (now (d22 .exit))))
+        ≡ through (sampleOf alpha volume (now (increments .entry)))
+        (state (now (c .entry)) (filter (now (d11 .entry)) (now (d12 .entry)) (now (d21 .entry)) (now (d22 .entry)))) (now (samples .entry)) ⌝ }
+{
+    let mut i = 0;
+    while i < samples.len() {
+        let x = samples[i];
+        let y = sample(x, c, increments, alpha, volume, d11, d12, d21, d22);
+        samples[i] = y;
+        i += 1;
+    }
+}
+
+// The samples of a stretch, and the filter after it.
+pub fn stretch(
+    f: MelLogSpectrumApproximation,
+    samples: &mut [f64],
+    c: &mut [f64],
+    increments: &[f64],
+    alpha: f64,
+    volume: f64,
+) -> MelLogSpectrumApproximation
+    requires { ⌜ (2 ≤ length (now c)) × (length (now c) ≤ 64) × (length (now increments) ≡ length (now c)) ⌝ }
+    ensures { λ r. ⌜ passage (now (samples .exit)) (state (now (c .exit)) r)
+        ≡ through (sampleOf alpha volume (now (increments .entry))) (state (now (c .entry)) f) (now (samples .entry)) ⌝ }
+{
+    let mut d11 = f.d11;
+    let mut d12 = f.d12;
+    let mut d21 = f.d21;
+    let mut d22 = f.d22;
+    stretch_in(
+        samples,
+        c,
+        increments,
+        alpha,
+        volume,
+        &mut d11,
+        &mut d12,
+        &mut d21,
+        &mut d22,
+    );
+    MelLogSpectrumApproximation { d11, d12, d21, d22 }
+}

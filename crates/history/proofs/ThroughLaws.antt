@@ -1,0 +1,46 @@
+-- Samples may be turned in parts, cut anywhere, and in the buffer that they stand in. Assumes nothing.
+use mathlib.Core.Path.{_≡_, refl, sym, ap, _∙_}
+use mathlib.Core.List.{List, [], _∷_, _++_, append-nil}
+use Prim.Native.Nat.{ℕ, suc, _+_, _≤_, _<_}
+use native.Mathlib.Nat.{le-refl}
+use native.Mathlib.Numerals.{add-one}
+use native.Mathlib.Omega.{arith}
+use lib.ListN.{length, getD, take, drop, set}
+use lib.Seq.{take-all, take-suc-set, drop-set-lt, append-snoc}
+use Rattle.number.proofs.Lists.{left-next, left-none}
+use Rattle.history.specs.Through.{Turned, Passage, passage, _before_, through}
+
+module _ {State Sample : Type 0} (turn : State → Sample → Turned State Sample) where
+  -- THE CUT: xs and then ys are xs ++ ys, from the state that xs led to.
+  pub through-cut : (s : State) (xs ys : List Sample)
+      → through turn s (xs ++ ys) ≡ through turn s xs .made before through turn (through turn s xs .state) ys
+  unfolding through
+  through-cut s [] ys = refl
+  through-cut s (x ∷ xs) ys = ap (λ (p : Passage State Sample). (turn s x .sample ∷ []) before p) (through-cut (turn s x .state) xs ys)
+
+  -- as many samples come out as went in
+  pub through-length : (s : State) (xs : List Sample) → length (through turn s xs .made) ≡ length xs
+  unfolding through
+  through-length s [] = refl
+  through-length s (x ∷ xs) = ap suc (through-length (turn s x .state) xs)
+
+  -- ---- a loop that turns the samples of a buffer in place, one a turn
+
+  -- what it has come to at i: the samples before i are done, and the others are still to be turned from s on
+  unfoldable pub fromHere : ℕ → State → List Sample → Passage State Sample
+  fromHere i s d = take i d before through turn s (drop i d)
+
+  pub through-turn : (i : ℕ) (s : State) (d : List Sample) (z : Sample) (t : Turned State Sample)
+      → i < length d → t ≡ turn s (getD d i z) → fromHere (i + 1) (t .state) (set d i (t .sample)) ≡ fromHere i s d
+  unfolding fromHere through
+  through-turn i s d z t h e =
+      rw (left-next d i z h, ← e, add-one i, take-suc-set d i (t .sample) h, drop-set-lt (suc i) d i (t .sample) (le-refl (suc i)))
+      (ap (λ (l : List Sample). passage l (through turn (t .state) (drop (suc i) d) .state)) (append-snoc (take i d) (t .sample) (through turn (t .state) (drop (suc i) d) .made)))
+
+  pub through-all : (s : State) (d : List Sample) → fromHere 0 s d ≡ through turn s d
+  unfolding fromHere
+  through-all s d = refl
+
+  pub through-end : (i : ℕ) (s : State) (d : List Sample) → length d ≤ i → fromHere i s d ≡ passage d s
+  unfolding fromHere through
+  through-end i s d h = rw (left-none d i h, take-all i d h) (ap (λ (l : List Sample). passage l s) (append-nil d))
