@@ -1,1 +1,2 @@
 mod FilterLaws
+pub mod Cut

@@ -5,6 +5,7 @@ use mathlib.Core.Bool.{false, true}
 use mathlib.Core.List.{List, [], _∷_}
 use lib.IntN.{pos, negsuc}
 use lib.Ieee.{Float, fin, binary64, ofBits, add, sub, mul, neg}
+use Rattle.number.specs.F64.{_⊕_, _⊖_, _⊗_, −_, 1f, _‼_}
 use Rattle.fir.specs.Fir.{Taps, start, singles, firOf}
 
 -- m * 2^e, for an odd m (or 0)
@@ -49,3 +50,24 @@ one-by-one = singles half c-of-four 4 2 (start half zero! d-of-four)
 pub not-one-by-one : one-by-one .on .y0 ≡ 2251799813685249 ·2^ 2
 unfolding singles ofBits add sub mul neg
 not-one-by-one = refl
+
+-- with the group's first tap overwritten before the later three read it, it would be 2^53 + 4 too, and the taps 2, 2, 0, 2^53
+abbrev overwritten : Taps
+overwritten =
+    let aa = half ⊗ half in
+    let iaa = 1f ⊖ aa in
+    let t = start half zero! d-of-four in
+    let rem = t .on .rem in
+    let e0 = iaa ⊗ rem ⊕ half ⊗ t .d ‼ 2 in
+    let e1 = iaa ⊗ (− half ⊗ rem ⊕ e0) ⊕ half ⊗ t .d ‼ 3 in
+    let e2 = iaa ⊗ (aa ⊗ rem ⊕ (− half ⊗ e0 ⊕ t .d ‼ 3)) ⊕ half ⊗ t .d ‼ 4 in
+    let e3 = iaa ⊗ (aa ⊗ (− half ⊗ rem ⊕ e0) ⊕ (− half ⊗ t .d ‼ 3 ⊕ t .d ‼ 4)) ⊕ half ⊗ t .d ‼ 5 in
+    record { d = e0 ∷ e1 ∷ e2 ∷ e3 ∷ []; on = record { rem = rem; y0 = e0 ⊕ e2; y1 = e1 ⊕ e3 } }
+
+pub not-overwritten : overwritten .d ≡ 1 ·2^ 1 ∷ 1 ·2^ 1 ∷ zero! ∷ 1 ·2^ 53 ∷ []
+unfolding ofBits add sub mul neg
+not-overwritten = refl
+
+pub not-overwritten-sum : overwritten .on .y0 ⊕ overwritten .on .y1 ≡ 2251799813685249 ·2^ 2
+unfolding ofBits add sub mul neg
+not-overwritten-sum = refl

@@ -1,1 +1,2 @@
 pub mod Mglsa
+pub mod Numbers

@@ -1,1 +1,2 @@
 pub mod Mlsa
+pub mod Numbers
