@@ -1,8 +1,9 @@
-// Tells the linker where libexports.a and libexported.a are; the files of src/ that call them name them.
+// Tells the linker where the archives are; the files of src/ that call them name them.
 fn main() {
     println!("cargo:rerun-if-env-changed=EXPORTS_DIR");
-    let folder = std::env::var("EXPORTS_DIR").expect("EXPORTS_DIR is the folder of both");
-    println!("cargo:rerun-if-changed={folder}/libexports.a");
-    println!("cargo:rerun-if-changed={folder}/libexported.a");
+    let folder = std::env::var("EXPORTS_DIR").expect("EXPORTS_DIR is the folder of all three");
+    for name in ["exports", "exported", "export_filters"] {
+        println!("cargo:rerun-if-changed={folder}/lib{name}.a");
+    }
     println!("cargo:rustc-link-search=native={folder}");
 }

@@ -1,5 +1,5 @@
 # shellcheck shell=bash disable=SC2154 # the sourcing script sets tool and root
-# Sourced by oracle/run and bench/run: the static library of our functions, and cargo without extra flags.
+# Sourced by oracle/run and bench/run: the static libraries of our functions, and cargo without extra flags.
 
 # Ends the script with a message and status 2: nothing was compared or measured.
 fail() {
@@ -7,16 +7,19 @@ fail() {
     exit 2
 }
 
-# The folder of libexports.a and libexported.a: EXPORTS_DIR, or where `rt staticlib` writes them.
+# The crates whose static libraries are linked.
+archives=(exports exported export_filters)
+
+# The folder of the archives: EXPORTS_DIR, or where `rt staticlib` writes them.
 archive_folder() {
     local folder=${EXPORTS_DIR:-$root/target/staticlib} name
-    for name in exports exported; do
+    for name in "${archives[@]}"; do
         [ -f "$folder/lib$name.a" ] || fail "no lib$name.a in $folder: run 'rt staticlib $name' in the repository, or set EXPORTS_DIR"
     done
     (cd "$folder" && pwd -P)
 }
 
-# Whether the archive in folder $1 holds code of this machine's processor. `rt` writes x86-64 only.
+# Whether the archives in folder $1 hold code of this machine's processor. `rt` writes x86-64 only.
 archive_is_native() {
     local machine
     command -v readelf >/dev/null || fail "readelf (binutils) is needed, to tell whose code libexports.a is"

@@ -21,7 +21,7 @@ pub struct Case {
 
 /// The steps that the bands of document 01 allow: an error of 2^-48 is 2^5 steps, one of 2^-44 is 2^9,
 /// one of 2^-40 is 2^13. That of the cosine is absolute, and so more steps beside its zeros.
-const EXACT: u64 = 0;
+pub const EXACT: u64 = 0;
 const EXP_LN: u64 = 1 << 5;
 const POWER: u64 = 1 << 9;
 const ROOT: u64 = 1 << 13;

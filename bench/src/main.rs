@@ -6,11 +6,14 @@ mod excitation;
 mod excitation_calls;
 mod excitation_structs;
 mod excitations;
+mod filter_calls;
+mod filters;
 mod generator;
 mod inputs;
 mod measure;
 mod preparations;
 mod spectra;
+mod stretches;
 mod variants;
 
 use cases::Case;
@@ -20,6 +23,12 @@ use measure::{ROUNDS, STRETCH, Times, measure, ways_agree};
 use std::process::ExitCode;
 
 const SEED: u64 = 1;
+
+/// The condition of the pinned `mul_add!` (mlsa.rs): whether the Rust's filter rounds once where ours rounds twice.
+const FUSED: bool = cfg!(any(
+    all(target_arch = "x86_64", target_feature = "fma"),
+    all(target_arch = "aarch64", target_feature = "neon"),
+));
 
 /// Cases whose times are given in one unit.
 struct Table {
@@ -32,14 +41,21 @@ struct Table {
 fn main() -> ExitCode {
     let least = STRETCH.as_millis();
     println!("{ROUNDS} interleaved rounds, each way at least {least} ms a round");
-    println!("ours: called through the static libraries libexports.a and libexported.a");
+    println!(
+        "ours: called through the static libraries libexports.a, libexported.a and libexport_filters.a"
+    );
     println!("Rust, called: through an #[inline(never)] function; Rust, inlined: the plain loop");
     println!("noise: median/best; ratios: ours/Rust, by best and by median");
+    if FUSED {
+        println!(
+            "for this processor the pinned filter of stage 0 is built with fused multiply-add, ours is not"
+        );
+    }
     let done = tables(&mut Generator::new(SEED)).iter().all(print_table);
     ExitCode::from(u8::from(!done))
 }
 
-fn tables(random: &mut Generator) -> [Table; 2] {
+fn tables(random: &mut Generator) -> [Table; 3] {
     [
         Table {
             title: format!("ns a call, over {COUNT} independent inputs; excitation: ns a sample"),
@@ -50,6 +66,11 @@ fn tables(random: &mut Generator) -> [Table; 2] {
             title: "µs a frame, from its spectrum to its coefficients".to_string(),
             unit: 1e3,
             cases: preparations::all(random),
+        },
+        Table {
+            title: "ns a sample, from the excitation on".to_string(),
+            unit: 1.0,
+            cases: stretches::all(random),
         },
     ]
 }

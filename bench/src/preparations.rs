@@ -7,7 +7,7 @@ use crate::variants::{Variant, Ways, floats, with_bits};
 use std::f64::consts::PI;
 
 /// The entries of a spectrum, and the frames of a pass.
-const NMCP: usize = 25;
+pub const NMCP: usize = 25;
 const FRAMES: usize = 16;
 
 /// The recursion of the pairs magnifies what cos and the powers are away from the Rust's.
@@ -83,7 +83,7 @@ fn cepstrum(random: &mut Generator) -> Vec<u64> {
 }
 
 /// Frequencies that rise below PI: the pinned Rust takes the gain for the first of them.
-fn pairs(random: &mut Generator) -> Vec<u64> {
+pub fn pairs(random: &mut Generator) -> Vec<u64> {
     let step = PI / (NMCP + 1) as f64;
     (1..=NMCP)
         .map(|place| (step * (place as f64 + 0.6 * (random.unit() - 0.5))).to_bits())

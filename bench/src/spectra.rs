@@ -6,7 +6,7 @@ mod buffer;
 #[path = "vocoder/cepstrum.rs"]
 mod cepstrum;
 #[path = "vocoder/coefficients.rs"]
-mod coefficients;
+pub mod coefficients;
 #[path = "vocoder/generalized.rs"]
 mod generalized;
 #[path = "vocoder/lsp.rs"]

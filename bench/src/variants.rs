@@ -3,7 +3,8 @@
 use std::hint::black_box;
 
 /// One way: its name, and a pass over the inputs. The second words are the other factors of a
-/// product, the s of a power, the excitation's period, or beta and stage; the other functions read none.
+/// product, the s of a power, the excitation's period, beta and stage, or nmcp, stage and alpha; the other
+/// functions read none.
 #[derive(Clone, Copy)]
 pub struct Variant {
     pub name: &'static str,

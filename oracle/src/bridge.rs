@@ -1,20 +1,22 @@
 //! The bridge (bridge.c), run under an emulator, with both ends of its pipes.
 
 use crate::excitation_structs::Pulse;
+use crate::filter;
 use crate::ours::Operation;
 use crate::spectrum;
 use crate::stretches::{Outcome, Request};
 use std::io::{Read, Result, Write};
 use std::process::{Child, ChildStdin, ChildStdout, Command, Stdio};
 
-/// The excitation's functions and, under one number, those on spectra: the bridge's numbers. A request is
-/// one call.
+/// The excitation's functions and, under one number each, those on spectra and the filters: the bridge's
+/// numbers. A request is one call.
 #[derive(Clone, Copy)]
 enum Call {
     Stretch = 11,
     Start = 12,
     End = 13,
     Spectrum = 14,
+    Filter = 15,
 }
 
 pub struct Bridge {
@@ -67,6 +69,12 @@ impl Bridge {
         let answers = 1 + lengths.iter().sum::<usize>();
         let words = self.call(Call::Spectrum, &request.words(), answers);
         spectrum::Outcome::read(&mut words.into_iter(), lengths).expect("words enough")
+    }
+
+    pub fn filter(&mut self, request: &filter::Request) -> filter::Outcome {
+        let answers = 1 + request.arrays.all().map(Vec::len).sum::<usize>();
+        let words = self.call(Call::Filter, &request.words(), answers);
+        filter::Outcome::read(&mut words.into_iter(), request).expect("words enough")
     }
 
     fn pulse(&mut self, call: Call, inputs: &[u64]) -> Pulse {

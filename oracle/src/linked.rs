@@ -1,6 +1,8 @@
-//! Our functions as they are linked in from libexports.a.
+//! Our functions as they are linked in: those of libexports.a, and the filters on copies of a call's arrays.
 
 use crate::excitation_calls;
+use crate::filter::{self, Filter};
+use crate::filter_calls::{self, Stretch};
 use crate::ours::Operation;
 use crate::stretches::{Outcome, Request, State};
 
@@ -49,4 +51,21 @@ pub fn stretch(request: &Request) -> Outcome {
             line,
         },
     }
+}
+
+pub fn filter(request: &filter::Request) -> filter::Outcome {
+    let mut arrays = request.arrays.clone();
+    let stretch = Stretch {
+        samples: &mut arrays.samples,
+        coefficients: &mut arrays.coefficients,
+        increments: &arrays.increments,
+        alpha: request.alpha,
+        volume: request.volume,
+    };
+    let number = match (request.filter, &mut arrays.taps[..]) {
+        (Filter::Mlsa, [d11, d12, d22, d21]) => filter_calls::mlsa(stretch, [d11, d12, d22, d21]),
+        (Filter::Mglsa { stages }, [d]) => filter_calls::mglsa(stretch, stages, d),
+        (_, taps) => panic!("{} arrays of taps", taps.len()),
+    };
+    filter::Outcome { number, arrays }
 }

@@ -4,10 +4,14 @@
 
 mod answerers;
 mod bridge;
+mod check_fir;
 mod check_pinned;
 mod compare_bits;
 mod compare_excitation;
 mod compare_excitation_states;
+mod compare_filter;
+mod compare_filter_frames;
+mod compare_filter_limits;
 mod compare_frames;
 mod compare_spectrum;
 mod compare_spectrum_numbers;
@@ -21,6 +25,14 @@ mod excitation_structs;
 mod excitation_tally;
 mod excitation_values;
 mod excitations;
+mod filter;
+#[cfg(feature = "linked")]
+mod filter_calls;
+mod filter_sides;
+mod filter_tally;
+mod filter_values;
+mod filters;
+mod filters_cases;
 mod float_patterns;
 mod frames;
 mod generated_frames;
@@ -32,6 +44,7 @@ mod ours;
 mod pairs_values;
 mod roots;
 mod rusts_excitation;
+mod rusts_filter;
 mod rusts_spectrum;
 mod sides;
 mod spectra;
@@ -53,8 +66,8 @@ use std::process::ExitCode;
 use std::rc::Rc;
 
 const SEED: u64 = 1;
-const USAGE: &str = "usage: oracle patterns | roots | excitations | spectra, or, with our functions linked in or behind a \
-                     bridge, oracle compare|frames|stretches|prepared [EMULATOR BRIDGE]";
+const USAGE: &str = "usage: oracle patterns | roots | excitations | spectra | filters, or, with our functions linked in or \
+                     behind a bridge, oracle compare|frames|stretches|prepared|filtered [EMULATOR BRIDGE]";
 
 fn main() -> ExitCode {
     let words: Vec<String> = std::env::args().skip(1).collect();
@@ -64,6 +77,7 @@ fn main() -> ExitCode {
         ["roots"] => roots::print_roots().map(|()| true),
         ["excitations"] => printed(excitations::print_requests),
         ["spectra"] => printed(spectra::print_requests),
+        ["filters"] => printed(filters::print_requests),
         #[cfg(feature = "linked")]
         [what] => with(what, Ours::Linked, "linked into the driver"),
         [what, emulator, bridge] => Bridge::open(emulator, bridge)
@@ -109,6 +123,7 @@ fn with(what: &str, ours: Ours, reached: &str) -> Result<bool, String> {
         "compare" | "frames" => compare(what, &ours, reached),
         "stretches" => excitations::print_outcomes(ours).map(|()| true),
         "prepared" => spectra::print_outcomes(ours).map(|()| true),
+        "filtered" => filters::print_outcomes(ours).map(|()| true),
         _ => Err(USAGE.to_string()),
     }
 }
@@ -128,6 +143,7 @@ fn compare(what: &str, ours: &Rc<RefCell<Ours>>, reached: &str) -> Result<bool, 
         }
         equal &= compare_excitation::run(ours, seed);
         equal &= compare_spectrum::run(ours, seed);
+        equal &= compare_filter::run(ours, seed);
     }
     let folder = announcement_folder();
     if folder.is_none() {

@@ -1,10 +1,11 @@
-//! Our functions: linked in from libexports.a and libexported.a (feature `linked`), or asked of the bridge where this
-//! processor cannot run the archive.
+//! Our functions: linked in from libexports.a, libexported.a and libexport_filters.a (feature `linked`), or asked of the
+//! bridge where this processor cannot run the archives.
 
 use crate::bridge::Bridge;
 #[cfg(feature = "linked")]
 use crate::excitation_calls::{kipawnore_end, kipawnore_start};
 use crate::excitation_structs::Pulse;
+use crate::filter;
 #[cfg(feature = "linked")]
 use crate::linked;
 use crate::spectrum;
@@ -92,6 +93,14 @@ impl Ours {
             #[cfg(feature = "linked")]
             Ours::Linked => spectrum_calls::outcome(request),
             Ours::Bridge(bridge) => bridge.spectrum(request),
+        }
+    }
+
+    pub fn filter(&mut self, request: &filter::Request) -> filter::Outcome {
+        match self {
+            #[cfg(feature = "linked")]
+            Ours::Linked => linked::filter(request),
+            Ours::Bridge(bridge) => bridge.filter(request),
         }
     }
 }

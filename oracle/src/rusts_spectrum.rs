@@ -17,7 +17,7 @@ mod generalized {
     include!("../routed/src/vocoder/generalized.rs");
 }
 
-mod coefficients {
+pub mod coefficients {
     include!("../routed/src/vocoder/coefficients.rs");
 }
 

@@ -69,17 +69,17 @@ pub fn decaying(entries: usize, random: &mut Generator) -> Vec<f64> {
 }
 
 /// Of a voice's size, with more or fewer of any kind among them.
-fn odd(entries: usize, random: &mut Generator) -> Vec<f64> {
+pub fn odd(entries: usize, random: &mut Generator) -> Vec<f64> {
     let one_in = 1 << random.below(10);
     floats(entries, one_in, random)
 }
 
-fn of_all_sizes(entries: usize, random: &mut Generator) -> Vec<f64> {
+pub fn of_all_sizes(entries: usize, random: &mut Generator) -> Vec<f64> {
     (0..entries).map(|_| of_size(-30, 12, random)).collect()
 }
 
 /// Of which the energy comes near the largest and the smallest floats, or beyond.
-fn loud(entries: usize, random: &mut Generator) -> Vec<f64> {
+pub fn loud(entries: usize, random: &mut Generator) -> Vec<f64> {
     let mut cepstrum = decaying(entries, random);
     cepstrum[0] = match random.below(4) {
         0 => at_or_beside(&[709.0, -708.0], random),
@@ -98,7 +98,7 @@ fn at_powers_ends(entries: usize, random: &mut Generator) -> Vec<f64> {
 }
 
 /// Zeros of both signs, subnormals, and now and then any float.
-fn hardly_any(entries: usize, random: &mut Generator) -> Vec<f64> {
+pub fn hardly_any(entries: usize, random: &mut Generator) -> Vec<f64> {
     let mut entry = || match random.below(16) {
         0 => any_float(random),
         1..8 => 0.0,
