@@ -1,8 +1,8 @@
 // Tells the linker where the archives are; the files of src/ that call them name them.
 fn main() {
     println!("cargo:rerun-if-env-changed=EXPORTS_DIR");
-    let folder = std::env::var("EXPORTS_DIR").expect("EXPORTS_DIR is the folder of all three");
-    for name in ["exports", "exported", "export_filters"] {
+    let folder = std::env::var("EXPORTS_DIR").expect("EXPORTS_DIR is the folder of the archives");
+    for name in ["exports", "export_mel", "export_pairs", "export_preparing", "export_filters"] {
         println!("cargo:rerun-if-changed={folder}/lib{name}.a");
     }
     println!("cargo:rustc-link-search=native={folder}");

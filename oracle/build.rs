@@ -4,8 +4,8 @@ fn main() {
     if std::env::var_os("CARGO_FEATURE_LINKED").is_none() {
         return;
     }
-    let folder = std::env::var("EXPORTS_DIR").expect("EXPORTS_DIR is the folder of all three");
-    for name in ["exports", "exported", "export_filters"] {
+    let folder = std::env::var("EXPORTS_DIR").expect("EXPORTS_DIR is the folder of the archives");
+    for name in ["exports", "export_mel", "export_pairs", "export_preparing", "export_filters"] {
         println!("cargo:rerun-if-changed={folder}/lib{name}.a");
     }
     println!("cargo:rustc-link-search=native={folder}");

@@ -14,6 +14,10 @@ find_emulator() {
 
 # Links the archives in folder $1 with the bridge, a small x86-64 program that the driver talks to.
 build_bridge() {
+    local name libraries=()
+    for name in "${archives[@]}"; do
+        libraries+=("$1/lib$name.a")
+    done
     "${ORACLE_CC:-clang}" --target=x86_64-linux-gnu -fuse-ld=lld -O2 -Wall -Wextra -Werror -ffreestanding -fno-stack-protector \
-        -nostdlib -static -o "$work/bridge" "$here"/{bridge,bridge_spectrum,bridge_filter,memory}.c "$1"/lib{exports,exported,export_filters}.a || fail "the bridge does not build"
+        -nostdlib -static -o "$work/bridge" "$here"/{bridge,bridge_spectrum,bridge_filter,memory}.c "${libraries[@]}" || fail "the bridge does not build"
 }

@@ -42,7 +42,7 @@ fn main() -> ExitCode {
     let least = STRETCH.as_millis();
     println!("{ROUNDS} interleaved rounds, each way at least {least} ms a round");
     println!(
-        "ours: called through the static libraries libexports.a, libexported.a and libexport_filters.a"
+        "ours: called through the static libraries"
     );
     println!("Rust, called: through an #[inline(never)] function; Rust, inlined: the plain loop");
     println!("noise: median/best; ratios: ours/Rust, by best and by median");

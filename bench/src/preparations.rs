@@ -28,7 +28,7 @@ const WAYS: Ways = [
     },
 ];
 
-#[link(name = "exported", kind = "static")]
+#[link(name = "export_preparing", kind = "static")]
 unsafe extern "C" {
     fn kipawnore_prepare_mcp(
         spectrum: *const f64,

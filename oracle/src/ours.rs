@@ -1,4 +1,4 @@
-//! Our functions: linked in from libexports.a, libexported.a and libexport_filters.a (feature `linked`), or asked of the
+//! Our functions: linked in from the archives (feature `linked`), or asked of the
 //! bridge where this processor cannot run the archives.
 
 use crate::bridge::Bridge;

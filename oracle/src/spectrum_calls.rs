@@ -1,11 +1,13 @@
-//! The functions on spectra of libexported.a, linked in.
+//! The functions on spectra, linked in.
 
 use crate::spectrum::{Outcome, Request, Step};
 
 type In = *const f64;
 type Out = *mut f64;
 
-#[link(name = "exported", kind = "static")]
+#[link(name = "export_mel", kind = "static")]
+#[link(name = "export_pairs", kind = "static")]
+#[link(name = "export_preparing", kind = "static")]
 unsafe extern "C" {
     fn kipawnore_mc2b(c: In, nc: usize, alpha: f64, b: Out, nb: usize) -> u64;
     fn kipawnore_b2mc(b: In, nb: usize, alpha: f64, c: Out, nc: usize) -> u64;
