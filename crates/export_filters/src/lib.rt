@@ -3,6 +3,7 @@ ghost use mathlib.Core.Path.{_≡_};
 ghost use lib.ListN.{length};
 ghost use Rattle.history.specs.Through.{passage, through};
 ghost use Rattle.mlsa.specs.Mlsa.{filter};
+ghost use Rattle.filter.specs.Sample.{state};
 ghost use Rattle.filter.specs.Zero as zero;
 ghost use Rattle.filter.specs.NonZero as nonzero;
 ghost use Rattle.export_filters.specs.Filters.{zeroFits, nonzeroFits, numberOf, doneWhere};
@@ -46,9 +47,9 @@ pub extern "C" fn kipawnore_mlsa_stretch(
     d22: &mut [f64],
 ) -> u64
     ensures { λ r. ⌜ r ≡ numberOf (zeroFits (length (now (c .entry))) (length (now (increments .entry))) (length (now (d11 .entry))) (length (now (d12 .entry))) (length (now (d21 .entry))) (length (now (d22 .entry)))) ⌝ }
-    ensures { λ r. ⌜ passage (now (samples .exit)) (zero.state (now (c .exit)) (filter (now (d11 .exit)) (now (d12 .exit)) (now (d21 .exit)) (now (d22 .exit))))
+    ensures { λ r. ⌜ passage (now (samples .exit)) (state (now (c .exit)) (filter (now (d11 .exit)) (now (d12 .exit)) (now (d21 .exit)) (now (d22 .exit))))
         ≡ doneWhere r (through (zero.sampleOf alpha volume (now (increments .entry))))
-        (zero.state (now (c .entry)) (filter (now (d11 .entry)) (now (d12 .entry)) (now (d21 .entry)) (now (d22 .entry)))) (now (samples .entry)) ⌝ }
+        (state (now (c .entry)) (filter (now (d11 .entry)) (now (d12 .entry)) (now (d21 .entry)) (now (d22 .entry)))) (now (samples .entry)) ⌝ }
 {
     if !zero_fits(
         c.len(),
@@ -76,8 +77,8 @@ pub extern "C" fn kipawnore_mglsa_stretch(
     d: &mut [f64],
 ) -> u64
     ensures { λ r. ⌜ r ≡ numberOf (nonzeroFits (length (now (c .entry))) (length (now (increments .entry))) stages (length (now (d .entry)))) ⌝ }
-    ensures { λ r. ⌜ passage (now (samples .exit)) (nonzero.state (now (c .exit)) (now (d .exit)))
-        ≡ doneWhere r (through (nonzero.sampleOf alpha volume (now (increments .entry)) stages)) (nonzero.state (now (c .entry)) (now (d .entry))) (now (samples .entry)) ⌝ }
+    ensures { λ r. ⌜ passage (now (samples .exit)) (state (now (c .exit)) (now (d .exit)))
+        ≡ doneWhere r (through (nonzero.sampleOf alpha stages volume (now (increments .entry)))) (state (now (c .entry)) (now (d .entry))) (now (samples .entry)) ⌝ }
 {
     if !nonzero_fits(c.len(), increments.len(), stages, d.len()) {
         return 1;

@@ -1,3 +1,4 @@
+pub mod Sample
 pub mod Zero
 pub mod NonZero
 pub mod Numbers

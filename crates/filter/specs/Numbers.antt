@@ -11,6 +11,7 @@ use Rattle.history.specs.Through.{passage, through}
 use Rattle.fir.specs.Fir.{firOf}
 use Rattle.mlsa.specs.Mlsa as mlsa
 use Rattle.mglsa.specs.Mglsa as mglsa
+use Rattle.filter.specs.Sample.{state, sampleBy}
 use Rattle.filter.specs.Zero as zero
 use Rattle.filter.specs.NonZero as nonzero
 
@@ -49,10 +50,10 @@ minus-zero-not-gained = refl
 
 -- the samples 0 and -0, from such a filter on: 16.54750482608 and 29.77021682852346
 abbrev zero-stretch : List Float
-zero-stretch = through (zero.sampleOf ½f 2f (whole 1 ∷ ½f ∷ quarter ∷ [])) (zero.state loud (mlsa.filter rising falling six-rows falling)) (0f ∷ − 0f ∷ []) .made
+zero-stretch = through (zero.sampleOf ½f 2f (whole 1 ∷ ½f ∷ quarter ∷ [])) (state loud (mlsa.filter rising falling six-rows falling)) (0f ∷ − 0f ∷ []) .made
 
 pub two-zeros : zero-stretch ≡ fin false 291106783471271 (negsuc 43) ∷ fin false 2094892772119955 (negsuc 45) ∷ []
-unfolding through zero.sampleOf zero.gained mlsa.dfOf mlsa.df1Of mlsa.df2Of mlsa.downward mlsa.firstRow mlsa.secondRow mlsa.weighed firOf plus ne eq ofBits ofInt add sub mul neg
+unfolding through sampleBy zero.gained mlsa.dfOf mlsa.df1Of mlsa.df2Of mlsa.downward mlsa.firstRow mlsa.secondRow mlsa.weighed firOf plus ne eq ofBits ofInt add sub mul neg
 two-zeros = refl
 
 -- ---- stage 2: alpha 0.5, volume 2, coefficients [3, 1, 2, 3], increments [1, 0.5, 0.25, 2], taps [1, 2, 3, 4] and [4, 3, 2, 1]
@@ -64,13 +65,13 @@ abbrev two-rows : List Float
 two-rows = whole 1 ∷ whole 2 ∷ whole 3 ∷ whole 4 ∷ whole 4 ∷ whole 3 ∷ whole 2 ∷ whole 1 ∷ []
 
 -- the samples 1 and 2: -54 and 37.78125
-pub one-and-two : through (nonzero.sampleOf ½f 2f (whole 1 ∷ ½f ∷ quarter ∷ whole 2 ∷ []) 2) (nonzero.state quiet two-rows) (whole 1 ∷ whole 2 ∷ [])
+pub one-and-two : through (nonzero.sampleOf ½f 2 2f (whole 1 ∷ ½f ∷ quarter ∷ whole 2 ∷ [])) (state quiet two-rows) (whole 1 ∷ whole 2 ∷ [])
     ≡ passage
     (fin true 27 (pos 1) ∷ fin false 1209 (negsuc 4) ∷ [])
-    (nonzero.state
+    (state
     (fin false 5 (pos 0) ∷ fin false 1 (pos 1) ∷ fin false 5 (negsuc 0) ∷ fin false 7 (pos 0) ∷ [])
     (fin true 995 (negsuc 7) ∷ fin true 83 (negsuc 2) ∷ fin false 123 (negsuc 3) ∷ fin false 29 (negsuc 4)
     ∷ fin false 1291 (negsuc 7) ∷ fin true 73 (negsuc 1) ∷ fin false 113 (negsuc 2) ∷ fin true 69 (negsuc 3)
     ∷ []))
-unfolding through nonzero.sampleOf mglsa.dfOf mglsa.stagesFrom mglsa.stageOf mglsa.dffOf mglsa.warped mglsa.warps mglsa.warpAt mglsa.pushed plus ofBits ofInt add sub mul neg
+unfolding through sampleBy mglsa.dfOf mglsa.stagesFrom mglsa.stageOf mglsa.dffOf mglsa.warped mglsa.warps mglsa.warpAt mglsa.pushed plus ofBits ofInt add sub mul neg
 one-and-two = refl

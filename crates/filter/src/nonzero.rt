@@ -3,7 +3,8 @@ ghost use mathlib.Core.Path.{_≡_};
 ghost use Prim.Native.Nat.{_*_, _≤_, _<_};
 ghost use lib.ListN.{length};
 ghost use Rattle.history.specs.Through.{passage, through};
-ghost use Rattle.filter.specs.NonZero.{state, sampleOf};
+ghost use Rattle.filter.specs.Sample.{state};
+ghost use Rattle.filter.specs.NonZero.{sampleOf};
 use mglsa::MelGeneralizedLogSpectrumApproximation;
 
 // One sample.
@@ -18,7 +19,7 @@ fn sample(
 ) -> f64
     requires { ⌜ (2 ≤ length (now c)) × (length (now increments) ≡ length (now c)) × (stages * length (now c) ≤ length (now d)) ⌝ }
     ensures { λ r. ⌜ record { sample = r; state = state (now (c .exit)) (now (d .exit)) }
-        ≡ sampleOf alpha volume (now (increments .entry)) stages (state (now (c .entry)) (now (d .entry))) x ⌝ }
+        ≡ sampleOf alpha stages volume (now (increments .entry)) (state (now (c .entry)) (now (d .entry))) x ⌝ }
 {
     let loud = x * c[0];
     let y = mglsa::df(d, stages, loud, alpha, c);
@@ -38,7 +39,7 @@ pub fn stretch_in(
 )
     requires { ⌜ (2 ≤ length (now c)) × (length (now increments) ≡ length (now c)) × (stages * length (now c) ≤ length (now d)) ⌝ }
     ensures { λ _. ⌜ passage (now (samples .exit)) (state (now (c .exit)) (now (d .exit)))
-        ≡ through (sampleOf alpha volume (now (increments .entry)) stages) (state (now (c .entry)) (now (d .entry))) (now (samples .entry)) ⌝ }
+        ≡ through (sampleOf alpha stages volume (now (increments .entry))) (state (now (c .entry)) (now (d .entry))) (now (samples .entry)) ⌝ }
 {
     let mut i = 0;
     while i < samples.len() {
@@ -61,7 +62,7 @@ pub fn stretch(
 ) -> MelGeneralizedLogSpectrumApproximation
     requires { ⌜ (2 ≤ length (now c)) × (length (now c) ≤ 64) × (length (now increments) ≡ length (now c)) × (stages ≤ 8) ⌝ }
     ensures { λ r. ⌜ passage (now (samples .exit)) (state (now (c .exit)) (r .d))
-        ≡ through (sampleOf alpha volume (now (increments .entry)) stages) (state (now (c .entry)) (f .d)) (now (samples .entry)) ⌝ }
+        ≡ through (sampleOf alpha stages volume (now (increments .entry))) (state (now (c .entry)) (f .d)) (now (samples .entry)) ⌝ }
 {
     let mut d = f.d;
     stretch_in(samples, c, increments, alpha, volume, stages, &mut d);

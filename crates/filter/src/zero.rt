@@ -4,7 +4,8 @@ ghost use Prim.Native.Nat.{_*_, _≤_, _<_};
 ghost use lib.ListN.{length};
 ghost use Rattle.history.specs.Through.{passage, through};
 ghost use Rattle.mlsa.specs.Mlsa.{filter};
-ghost use Rattle.filter.specs.Zero.{state, gained, sampleOf};
+ghost use Rattle.filter.specs.Sample.{state};
+ghost use Rattle.filter.specs.Zero.{gained, sampleOf};
 use mlsa::MelLogSpectrumApproximation;
 
 // The sample times exp(c[0]), where it is not 0.

@@ -4,6 +4,7 @@ use mathlib.Core.Path.{_≡_, refl}
 use mathlib.Core.Bool.{false, true}
 use mathlib.Core.List.{List, [], _∷_}
 use lib.IntN.{pos, negsuc}
+use lib.ListN.{replicate}
 use lib.Ieee.{Float, fin, binary64, ofBits, add, sub, mul, neg}
 use Rattle.number.specs.F64.{_⊕_, _⊖_, _⊗_, −_, 1f, _‼_}
 use Rattle.fir.specs.Fir.{Taps, start, singles, firOf}
@@ -71,3 +72,8 @@ not-overwritten = refl
 pub not-overwritten-sum : overwritten .on .y0 ⊕ overwritten .on .y1 ≡ 2251799813685249 ·2^ 2
 unfolding ofBits add sub mul neg
 not-overwritten-sum = refl
+
+-- ---- two running sums: alpha 0, x 0, d [0, 1, 2^53, 0, 0, 1, 0], all coefficients 1 give (1 + 1) + 2^53; one sum would give 2^53
+pub two-sums : firOf zero! zero! (replicate 7 (1 ·2^ 0)) (zero! ∷ 1 ·2^ 0 ∷ 1 ·2^ 53 ∷ zero! ∷ zero! ∷ 1 ·2^ 0 ∷ zero! ∷ []) .y ≡ 4503599627370497 ·2^ 1
+unfolding firOf ofBits add sub mul neg
+two-sums = refl

@@ -5,6 +5,7 @@ use lib.ListN.{length, set, replicate}
 use lib.Ieee.{Float}
 use Rattle.number.specs.F64.{_⊕_, _⊖_, _⊗_, 0f, 1f, _‼_}
 use Rattle.number.specs.Lists.{row, putRow}
+use Rattle.history.specs.Through.{Turned}
 use Rattle.mglsa.specs.declared.MelGeneralizedLogSpectrumApproximation.{MelGeneralizedLogSpectrumApproximation}
 
 -- taps, and a number that goes with them: a sum, or a sample
@@ -60,8 +61,12 @@ unfoldable pub stagesFrom : Float → List Float → ℕ → ℕ → Passed → 
 stagesFrom alpha c zero i s = s
 stagesFrom alpha c (suc n) i s = stagesFrom alpha c n (i + 1) (stageOf alpha c i s)
 
-unfoldable pub dfOf : Float → List Float → ℕ → Passed → Passed
-dfOf alpha c stages s = stagesFrom alpha c stages 0 s
+-- the sample after all stages, and the taps after it
+abbrev pub turned : Passed → Turned (List Float) Float
+turned s = record { sample = s .x; state = s .d }
+
+unfoldable pub dfOf : Float → ℕ → List Float → List Float → Float → Turned (List Float) Float
+dfOf alpha stages c d x = turned (stagesFrom alpha c stages 0 (passed d x))
 
 abbrev pub freshRows : MelGeneralizedLogSpectrumApproximation
 freshRows = record { d = replicate 512 0f }

@@ -6,7 +6,7 @@ use mathlib.Core.List.{List, [], _∷_, _++_}
 use lib.IntN.{pos, negsuc}
 use lib.Ieee.{Float, fin, binary64, ofBits, ofInt, add, sub, mul, neg}
 use Rattle.number.specs.F64.{½f, 1f}
-use Rattle.mglsa.specs.Mglsa.{passed, warpAt, warps, warped, pushed, dffOf, stageOf, stagesFrom, dfOf}
+use Rattle.mglsa.specs.Mglsa.{passed, warpAt, warps, warped, pushed, dffOf, stageOf, stagesFrom, turned, dfOf}
 
 -- 0, 1, 2, ..
 abbrev whole : ℕ → Float
@@ -38,11 +38,11 @@ unfolding dffOf warped warps warpAt pushed ofBits ofInt add sub mul neg
 one-stage = refl
 
 -- and the other after it -29 and [-19.75, 4, 2, 1.5]
-pub two-stages : dfOf ½f coefficients 2 (passed (first-row ++ second-row) 1f)
-    ≡ passed
+pub two-stages : dfOf ½f 2 coefficients (first-row ++ second-row) 1f
+    ≡ turned (passed
     (fin true 95 (negsuc 2) ∷ fin false 1 (pos 0) ∷ fin false 3 (pos 0) ∷ fin false 7 (negsuc 0)
     ∷ fin true 79 (negsuc 1) ∷ fin false 1 (pos 2) ∷ fin false 1 (pos 1) ∷ fin false 3 (negsuc 0)
     ∷ [])
-    (fin true 29 (pos 0))
+    (fin true 29 (pos 0)))
 unfolding dfOf stagesFrom stageOf dffOf warped warps warpAt pushed ofBits ofInt add sub mul neg
 two-stages = refl

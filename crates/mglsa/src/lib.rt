@@ -2,7 +2,7 @@
 ghost use mathlib.Core.Path.{_≡_};
 ghost use Prim.Native.Nat.{_+_, _*_, _≤_, _<_};
 ghost use lib.ListN.{length};
-ghost use Rattle.mglsa.specs.Mglsa.{passed, warpAt, warped, pushed, dffOf, stageOf, dfOf, freshRows};
+ghost use Rattle.mglsa.specs.Mglsa.{passed, warpAt, warped, pushed, dffOf, stageOf, turned, dfOf, freshRows};
 
 // The filter's taps, at most eight rows, one after the other. With fewer than 64 coefficients the rows are shorter, and the rest is
 // not used.
@@ -82,7 +82,7 @@ fn stage(d: &mut [f64], i: usize, x: f64, alpha: f64, c: &[f64]) -> f64
 // The sample after all stages, whose rows are lent.
 pub fn df(d: &mut [f64], stages: usize, x: f64, alpha: f64, c: &[f64]) -> f64
     requires { ⌜ (2 ≤ length (now c)) × (stages * length (now c) ≤ length (now d)) ⌝ }
-    ensures { λ r. ⌜ passed (now (d .exit)) r ≡ dfOf alpha (now (c .entry)) stages (passed (now (d .entry)) x) ⌝ }
+    ensures { λ r. ⌜ turned (passed (now (d .exit)) r) ≡ dfOf alpha stages (now (c .entry)) (now (d .entry)) x ⌝ }
 {
     let mut out = x;
     let mut i = 0;

@@ -4,9 +4,10 @@ use Prim.Native.Nat.{ℕ, suc, _+_, _-_, _*_, _≤_, _<_}
 use native.Mathlib.Omega.{arith}
 use native.Mathlib.Nat.{mul-le-mul-right}
 use lib.Ieee.{Float}
+use Rattle.history.specs.Through.{Turned}
 use mathlib.Core.List.{List}
 use Rattle.mlsa.specs.declared.MelLogSpectrumApproximation.{MelLogSpectrumApproximation}
-use Rattle.mlsa.specs.Mlsa.{Part, downward, passed, df1Of, df2Of, filter, Sampled, dfOf}
+use Rattle.mlsa.specs.Mlsa.{Part, downward, passed, df1Of, df2Of, filter, dfOf}
 
 module _ (one : ℕ → Part → Part) (turn : ℕ) (p : Part) where
   pub down-turn : turn < 6 → downward one (6 - (turn + 1)) (one (6 - turn) p) ≡ downward one (6 - turn) p
@@ -30,6 +31,6 @@ row-within k n l h fits =
 -- both parts, by what each comes to
 pub df-of : (alpha : Float) (c : List Float) (f : MelLogSpectrumApproximation) (x y r : Float) (d11 d12 d21 d22 : List Float)
     → passed d11 d12 y ≡ df1Of alpha c (f .d11) (f .d12) x → passed d21 d22 r ≡ df2Of alpha c (f .d21) (f .d22) y
-    → _≡_ {A = Sampled} (record { filter = filter d11 d12 d21 d22; x = r }) (dfOf alpha c f x)
+    → _≡_ {A = Turned MelLogSpectrumApproximation Float} (record { sample = r; state = filter d11 d12 d21 d22 }) (dfOf alpha c f x)
 unfolding dfOf
 df-of alpha c f x y r d11 d12 d21 d22 first second = rw (← first, ← second) refl

@@ -7,6 +7,7 @@ use lib.ListN.{length, set, replicate}
 use lib.Ieee.{Float, binary64, ofBits}
 use Rattle.number.specs.F64.{_⊕_, _⊖_, _⊗_, −_, 0f, 1f, _‼_}
 use Rattle.number.specs.Lists.{row, putRow}
+use Rattle.history.specs.Through.{Turned}
 use Rattle.fir.specs.Fir.{firOf}
 use Rattle.mlsa.specs.declared.MelLogSpectrumApproximation.{MelLogSpectrumApproximation}
 use Rattle.mlsa.specs.declared.Sums.{Sums}
@@ -91,13 +92,9 @@ filter d11 d12 d21 d22 = record { d11 = d11; d12 = d12; d21 = d21; d22 = d22 }
 abbrev pub freshFilter : MelLogSpectrumApproximation
 freshFilter = filter (replicate 6 0f) (replicate 6 0f) (replicate 384 0f) (replicate 6 0f)
 
--- the filter after a sample, and the sample after the filter
-pub record Sampled : Type 0 where
-  pub filter : MelLogSpectrumApproximation
-  pub x : Float
-
-unfoldable pub dfOf : Float → List Float → MelLogSpectrumApproximation → Float → Sampled
+-- the sample after the filter, and the filter after the sample
+unfoldable pub dfOf : Float → List Float → MelLogSpectrumApproximation → Float → Turned MelLogSpectrumApproximation Float
 dfOf alpha c f x =
     let first = df1Of alpha c (f .d11) (f .d12) x in
     let second = df2Of alpha c (f .d21) (f .d22) (first .x) in
-    record { filter = filter (first .d1) (first .d2) (second .d1) (second .d2); x = second .x }
+    record { sample = second .x; state = filter (first .d1) (first .d2) (second .d1) (second .d2) }

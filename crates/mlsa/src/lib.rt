@@ -129,7 +129,7 @@ pub fn df(
 ) -> f64
     requires { ⌜ (length (now d11) ≡ 6) × (length (now d12) ≡ 6) × (length (now d22) ≡ 6) ⌝ }
     requires { ⌜ (2 ≤ length (now c)) × (6 * length (now c) ≤ length (now d21)) ⌝ }
-    ensures { λ r. ⌜ record { filter = filter (now (d11 .exit)) (now (d12 .exit)) (now (d21 .exit)) (now (d22 .exit)); x = r }
+    ensures { λ r. ⌜ record { sample = r; state = filter (now (d11 .exit)) (now (d12 .exit)) (now (d21 .exit)) (now (d22 .exit)) }
         ≡ dfOf alpha (now (c .entry)) (filter (now (d11 .entry)) (now (d12 .entry)) (now (d21 .entry)) (now (d22 .entry))) x ⌝ }
 {
     let y = df1(d11, d12, x, alpha, c);

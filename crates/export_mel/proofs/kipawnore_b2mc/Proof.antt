@@ -6,8 +6,6 @@ use borrow.Author.Needs.{needs}
 use Rattle.export_mel.proofs.kipawnore_b2mc.Statement.{statement}
 use Rattle.export_mel.proofs.kipawnore_b2mc.Tie as tie
 
--- `kipawnore_b2mc` meets its contract: a test of the limits, and the function that it calls. Assumes nothing.
-
 entries-requires : tie.Need-entries-requires
 entries-requires c κs = search needs
 

@@ -6,8 +6,6 @@ use borrow.Author.Needs.{needs}
 use Rattle.export_mel.proofs.kipawnore_c2ir.Statement.{statement}
 use Rattle.export_mel.proofs.kipawnore_c2ir.Tie as tie
 
--- `kipawnore_c2ir` meets its contract: a test of the limits, and the function that it calls. Assumes nothing.
-
 returns : tie.Need-returns
 returns c = let e = ne-eqb _ _ (c .if1 .taken) in (rw e refl, rw e refl)
 

@@ -6,8 +6,6 @@ use borrow.Author.Needs.{needs}
 use Rattle.export_mel.proofs.kipawnore_mc2b.Statement.{statement}
 use Rattle.export_mel.proofs.kipawnore_mc2b.Tie as tie
 
--- `kipawnore_mc2b` meets its contract: a test of the limits, and the function that it calls. Assumes nothing.
-
 entries-requires : tie.Need-entries-requires
 entries-requires c κs = search needs
 

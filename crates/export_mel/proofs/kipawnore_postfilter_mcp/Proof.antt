@@ -7,8 +7,6 @@ use borrow.Author.Needs.{needs}
 use Rattle.export_mel.proofs.kipawnore_postfilter_mcp.Statement.{statement}
 use Rattle.export_mel.proofs.kipawnore_postfilter_mcp.Tie as tie
 
--- `kipawnore_postfilter_mcp` meets its contract: a test of the limits, and the function that it calls. Assumes nothing.
-
 entries-requires : tie.Need-entries-requires
 entries-requires c κs = search needs
 

@@ -6,8 +6,6 @@ use borrow.Author.Needs.{needs}
 use Rattle.export_pairs.proofs.kipawnore_check_lsp_stability.Statement.{statement}
 use Rattle.export_pairs.proofs.kipawnore_check_lsp_stability.Tie as tie
 
--- `kipawnore_check_lsp_stability` meets its contract: a test of the limits, and the function that it calls. Assumes nothing.
-
 entries-requires : tie.Need-entries-requires
 entries-requires c κs = search needs
 

@@ -6,8 +6,6 @@ use borrow.Author.Needs.{needs}
 use Rattle.export_pairs.proofs.kipawnore_gc2gc.Statement.{statement}
 use Rattle.export_pairs.proofs.kipawnore_gc2gc.Tie as tie
 
--- `kipawnore_gc2gc` meets its contract: a test of the limits, and the function that it calls. Assumes nothing.
-
 general-requires : tie.Need-general-requires
 general-requires c κs = search needs
 

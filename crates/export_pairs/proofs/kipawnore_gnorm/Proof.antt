@@ -7,8 +7,6 @@ use borrow.Author.Needs.{needs}
 use Rattle.export_pairs.proofs.kipawnore_gnorm.Statement.{statement}
 use Rattle.export_pairs.proofs.kipawnore_gnorm.Tie as tie
 
--- `kipawnore_gnorm` meets its contract: a test of the limits, and the function that it calls. Assumes nothing.
-
 general-requires : tie.Need-general-requires
 general-requires c κs = search needs
 

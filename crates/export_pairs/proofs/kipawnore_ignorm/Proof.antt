@@ -7,8 +7,6 @@ use borrow.Author.Needs.{needs}
 use Rattle.export_pairs.proofs.kipawnore_ignorm.Statement.{statement}
 use Rattle.export_pairs.proofs.kipawnore_ignorm.Tie as tie
 
--- `kipawnore_ignorm` meets its contract: a test of the limits, and the function that it calls. Assumes nothing.
-
 general-requires : tie.Need-general-requires
 general-requires c κs = search needs
 

@@ -7,8 +7,6 @@ use borrow.Author.Needs.{needs}
 use Rattle.export_pairs.proofs.kipawnore_lsp2lpc.Statement.{statement}
 use Rattle.export_pairs.proofs.kipawnore_lsp2lpc.Tie as tie
 
--- `kipawnore_lsp2lpc` meets its contract: a test of the limits, and the function that it calls. Assumes nothing.
-
 entries-requires : tie.Need-entries-requires
 entries-requires c κs = search needs
 

@@ -18,8 +18,6 @@ use Rattle.generalized.proofs.gc2gc.Tie as tie
 
 -- `gc2gc` meets its contract: the first i entries are made. Assumes nothing.
 
--- `gc2gc` meets its contract: the first i entries are made. Assumes nothing.
-
 abbrev Inv-loop : tie.InvT-loop
 Inv-loop c s d₀ gamma i₀ d i = (gamma ≡ gammaOf s) × (1 ≤ i) × (i ≤ length d) × (length d ≤ length c) × (length d ≤ 65) × (length d ≡ length d₀) × (d ≡ over (grown (gc2gcEntry gamma c) i) i d₀)
 

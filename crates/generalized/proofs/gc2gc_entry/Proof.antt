@@ -12,8 +12,6 @@ use borrow.Author.Needs.{needs}
 use Rattle.generalized.proofs.gc2gc_entry.Statement.{statement}
 use Rattle.generalized.proofs.gc2gc_entry.Tie as tie
 
--- `gc2gc_entry` meets its contract: the terms that are left give what all of them give, in both sums. Assumes nothing.
-
 abbrev Inv-loop : tie.InvT-loop
 Inv-loop c d gamma i ss1₀ ss2₀ k₀ ss1 ss2 k = (1 ≤ k) × (sumFrom (ss1Term c d i) k (i - k) ss1 ≡ sumFrom (ss1Term c d i) 1 (i - 1) 0f) × (sumFrom (ss2Term c d i) k (i - k) ss2 ≡ sumFrom (ss2Term c d i) 1 (i - 1) 0f)
 

@@ -7,8 +7,6 @@ use Rattle.generalized.proofs.ignorm_by.Tie as tie
 
 -- `ignorm_by` meets its contract. Assumes nothing.
 
--- `ignorm_by` meets its contract. Assumes nothing.
-
 multiply-from-requires : tie.Need-multiply-from-requires
 multiply-from-requires c κs = search needs
 

@@ -4,8 +4,6 @@ use borrow.Author.Tests.{le-leb, lt-leb}
 use Rattle.limits.proofs.entries.Statement.{statement}
 use Rattle.limits.proofs.entries.Tie as tie
 
--- `entries` meets its contract. Assumes nothing.
-
 returns : tie.Need-returns
 returns c = rw (le-leb _ _ (c .before .if1 .taken), le-leb _ _ (c .if2 .taken)) refl
 

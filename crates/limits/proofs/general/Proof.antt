@@ -5,8 +5,6 @@ use borrow.Author.Needs.{needs}
 use Rattle.limits.proofs.general.Statement.{statement}
 use Rattle.limits.proofs.general.Tie as tie
 
--- `general` meets its contract. Assumes nothing.
-
 stage-requires : tie.Need-stage-requires
 stage-requires c κs = search needs
 

@@ -9,8 +9,6 @@ use borrow.Author.Needs.{needs}
 use Rattle.lsp.proofs.lsp2lpc.Statement.{statement}
 use Rattle.lsp.proofs.lsp2lpc.Tie as tie
 
--- `lsp2lpc` meets its contract: the chains are at rest. Assumes nothing.
-
 add-mh1 : tie.Need-add-mh1
 add-mh1 c = search needs
 

@@ -11,8 +11,6 @@ use borrow.Author.Needs.{needs}
 use Rattle.lsp.proofs.mgc_in.Statement.{statement}
 use Rattle.lsp.proofs.mgc_in.Tie as tie
 
--- `mgc_in` meets its contract: each answer decides. Assumes nothing.
-
 lsp2lpc-requires : tie.Need-lsp2lpc-requires
 lsp2lpc-requires c κs = search needs
 

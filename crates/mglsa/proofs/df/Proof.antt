@@ -3,7 +3,7 @@ use mathlib.Core.Path.{_≡_, refl, sym, ap, _∙_}
 use Prim.Native.Nat.{ℕ, _+_, _-_, _≤_}
 use native.Mathlib.Omega.{arith}
 use lib.ListN.{length}
-use Rattle.mglsa.specs.Mglsa.{passed, stagesFrom, dfOf}
+use Rattle.mglsa.specs.Mglsa.{passed, stagesFrom, turned, dfOf}
 use Rattle.mglsa.proofs.MglsaLaws.{stage-turn, stage-end, row-within}
 use Rattle.mglsa.proofs.df.Statement.{statement}
 use Rattle.mglsa.proofs.df.Tie as tie
@@ -42,7 +42,7 @@ returns : tie.Need-returns Inv-loop μ-loop
 unfolding dfOf
 returns c =
     let top = c .before in
-    sym (stage-end _ _ (c .before .before .before .before .args .stages) (top .loop .i) _ (omega arith)) ∙ top .loop .inv .2
+    ap turned (sym (stage-end _ _ (c .before .before .before .before .args .stages) (top .loop .i) _ (omega arith)) ∙ top .loop .inv .2)
 
 pub df-spec : {M : Type 1} → statement M
 df-spec =

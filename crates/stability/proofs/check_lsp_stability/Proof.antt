@@ -17,8 +17,6 @@ use borrow.Author.Tests.{not-true, not-false}
 use Rattle.stability.proofs.check_lsp_stability.Statement.{statement}
 use Rattle.stability.proofs.check_lsp_stability.Tie as tie
 
--- `check_lsp_stability` meets its contract: the passes, and in a pass the gaps, that are left make what all of them make. Assumes nothing.
-
 abbrev Inv-loop : tie.InvT-loop
 Inv-loop lsp₀ min last pass find₀ j₀ lsp find j = (1 ≤ j) × (j ≤ last) × (length lsp ≡ last + 1) × (length lsp ≤ 64) × (gaps min j (last - j) (at lsp find) ≡ gaps min 1 (last - 1) (at lsp₀ false))
 

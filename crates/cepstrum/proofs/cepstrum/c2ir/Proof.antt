@@ -16,8 +16,6 @@ use borrow.Author.Needs.{needs}
 use Rattle.cepstrum.proofs.cepstrum.c2ir.Statement.{statement}
 use Rattle.cepstrum.proofs.cepstrum.c2ir.Tie as tie
 
--- `c2ir` meets its contract: the first n entries are made. Assumes nothing.
-
 abbrev Inv-loop : tie.InvT-loop
 Inv-loop c ir₀ n₀ ir n = (1 ≤ n) × (n ≤ 576) × (length ir ≡ 576) × (ir ≡ over (grown (irEntry c) n) n (replicate 576 0f))
 

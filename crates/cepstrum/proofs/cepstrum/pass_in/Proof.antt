@@ -7,8 +7,6 @@ use borrow.Author.Needs.{needs}
 use Rattle.cepstrum.proofs.cepstrum.pass_in.Statement.{statement}
 use Rattle.cepstrum.proofs.cepstrum.pass_in.Tie as tie
 
--- `pass_in` meets its contract: the first two entries, and what `onward_in` makes of the rest. Assumes nothing.
-
 slice-read-first : tie.Need-slice-read-first
 slice-read-first c = search needs
 

@@ -1,6 +1,8 @@
 -- `sample` meets its contract: gain, filter, coefficients and volume, each as its call says. Assumes nothing.
 use borrow.Author.Needs.{needs}
-use Rattle.filter.proofs.FilterLaws.{nonzero-sample}
+use mathlib.Core.Path.{refl}
+use Rattle.filter.specs.NonZero.{gained}
+use Rattle.filter.proofs.FilterLaws.{sample-of}
 use Rattle.filter.proofs.nonzero.sample.Statement.{statement}
 use Rattle.filter.proofs.nonzero.sample.Tie as tie
 
@@ -20,7 +22,7 @@ same-length-2 : tie.Need-same-length-2
 same-length-2 c = search needs
 
 returns : tie.Need-returns
-returns c = nonzero-sample _ _ _ _ _ _ _ _ _ _ (c .before .before .before .before .before .before .df .ensures) (c .before .before .add .ensures)
+returns c = sample-of gained _ _ _ _ _ _ _ _ _ _ refl (c .before .before .before .before .before .before .df .ensures) (c .before .before .add .ensures)
 
 pub sample-spec : {M : Type 1} → statement M
 sample-spec =

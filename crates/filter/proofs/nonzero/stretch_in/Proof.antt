@@ -7,14 +7,15 @@ use lib.ListN.{length, length-set}
 use lib.Ieee.{nan}
 use Rattle.history.specs.Through.{through}
 use Rattle.history.proofs.ThroughLaws.{fromHere, through-all, through-turn, through-end}
-use Rattle.filter.specs.NonZero.{state, sampleOf}
+use Rattle.filter.specs.Sample.{state}
+use Rattle.filter.specs.NonZero.{sampleOf}
 use Rattle.filter.proofs.nonzero.stretch_in.Statement.{statement}
 use Rattle.filter.proofs.nonzero.stretch_in.Tie as tie
 
 abbrev Inv-loop : tie.InvT-loop
 Inv-loop samples₀ c₀ increments alpha volume stages d₀ i₀ samples c d i =
     (i ≤ length samples) × (length samples ≡ length samples₀) × (length c ≡ length c₀) × (length d ≡ length d₀)
-    × (fromHere (sampleOf alpha volume increments stages) i (state c d) samples ≡ through (sampleOf alpha volume increments stages) (state c₀ d₀) samples₀)
+    × (fromHere (sampleOf alpha stages volume increments) i (state c d) samples ≡ through (sampleOf alpha stages volume increments) (state c₀ d₀) samples₀)
 
 abbrev μ-loop : tie.MeasureT-loop
 μ-loop samples₀ c₀ increments alpha volume stages d₀ i₀ samples c d i = length samples - i

@@ -1,6 +1,6 @@
 -- `sample` meets its contract: gain, filter, coefficients and volume, each as its call says. Assumes nothing.
 use borrow.Author.Needs.{needs}
-use Rattle.filter.proofs.FilterLaws.{zero-sample}
+use Rattle.filter.proofs.FilterLaws.{sample-of}
 use Rattle.filter.proofs.zero.sample.Statement.{statement}
 use Rattle.filter.proofs.zero.sample.Tie as tie
 
@@ -29,7 +29,7 @@ same-length-5 : tie.Need-same-length-5
 same-length-5 c = search needs
 
 returns : tie.Need-returns
-returns c = zero-sample _ _ _ _ _ _ _ _ _ _ (c .before .before .before .before .before .before .before .before .before .before .before .before .before .before .before .before .before .before .gain .ensures) (c .before .before .before .before .before .before .before .before .before .before .before .before .df .ensures) (c .before .before .add .ensures)
+returns c = sample-of _ _ _ _ _ _ _ _ _ _ _ (c .before .before .before .before .before .before .before .before .before .before .before .before .before .before .before .before .before .before .gain .ensures) (c .before .before .before .before .before .before .before .before .before .before .before .before .df .ensures) (c .before .before .add .ensures)
 
 pub sample-spec : {M : Type 1} → statement M
 sample-spec =

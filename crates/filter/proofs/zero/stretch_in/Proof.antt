@@ -8,7 +8,8 @@ use lib.Ieee.{nan}
 use Rattle.history.specs.Through.{through}
 use Rattle.history.proofs.ThroughLaws.{fromHere, through-all, through-turn, through-end}
 use Rattle.mlsa.specs.Mlsa.{filter}
-use Rattle.filter.specs.Zero.{state, sampleOf}
+use Rattle.filter.specs.Sample.{state}
+use Rattle.filter.specs.Zero.{sampleOf}
 use Rattle.filter.proofs.zero.stretch_in.Statement.{statement}
 use Rattle.filter.proofs.zero.stretch_in.Tie as tie
 

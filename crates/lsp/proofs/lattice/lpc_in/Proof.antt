@@ -12,8 +12,6 @@ use Rattle.lsp.proofs.lattice.lpc_in.Tie as tie
 
 -- `lpc_in` meets its contract: each answer decides, and the chains are at rest. Assumes nothing.
 
--- `lpc_in` meets its contract: each answer decides, and the chains are at rest. Assumes nothing.
-
 weights-requires : tie.Need-weights-requires
 weights-requires c κs = search needs
 

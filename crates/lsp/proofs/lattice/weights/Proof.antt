@@ -9,8 +9,6 @@ use borrow.Author.Needs.{needs}
 use Rattle.lsp.proofs.lattice.weights.Statement.{statement}
 use Rattle.lsp.proofs.lattice.weights.Tie as tie
 
--- `weights` meets its contract: the entries that are left decide. Assumes nothing.
-
 abbrev Inv-loop : tie.InvT-loop
 Inv-loop lsp first p₀ i₀ p i = (i ≤ length p) × (length p ≡ length p₀) × Weighed (everyOther (drop first lsp)) p i
 

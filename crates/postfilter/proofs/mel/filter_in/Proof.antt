@@ -7,8 +7,6 @@ use borrow.Author.Needs.{needs}
 use Rattle.postfilter.proofs.mel.filter_in.Statement.{statement}
 use Rattle.postfilter.proofs.mel.filter_in.Tie as tie
 
--- `filter_in` meets its contract: the answer of ln decides. Assumes nothing.
-
 mc2b-requires : tie.Need-mc2b-requires
 mc2b-requires c κs = search needs
 

@@ -5,8 +5,6 @@ use borrow.Author.Needs.{needs}
 use Rattle.postfilter.proofs.pairs.moves.Statement.{statement}
 use Rattle.postfilter.proofs.pairs.moves.Tie as tie
 
--- `moves` meets its contract. Assumes nothing.
-
 sub-result : tie.Need-sub-result
 sub-result c = search needs
 

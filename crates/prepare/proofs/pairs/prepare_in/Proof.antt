@@ -10,8 +10,6 @@ use Rattle.prepare.proofs.pairs.prepare_in.Tie as tie
 
 -- `prepare_in` meets its contract: both answers decide. Assumes nothing.
 
--- `prepare_in` meets its contract: both answers decide. Assumes nothing.
-
 copy-requires : tie.Need-copy-requires
 copy-requires c κs = search needs
 

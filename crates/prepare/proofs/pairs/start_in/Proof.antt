@@ -7,8 +7,6 @@ use Rattle.prepare.proofs.pairs.start_in.Tie as tie
 
 -- `start_in` meets its contract. Assumes nothing.
 
--- `start_in` meets its contract. Assumes nothing.
-
 returns : tie.Need-returns
 returns c = let e = not-true (c .before .before .before .before .args .first) (c .if1 .taken) in (rw e refl, λ i. rw e refl)
 
