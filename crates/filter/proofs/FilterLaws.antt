@@ -1,14 +1,26 @@
 -- A sample by what its steps come to, and the room for the rows of taps. Assumes nothing.
 use mathlib.Core.Path.{_≡_, refl}
 use mathlib.Core.List.{List}
+use mathlib.Core.Bool.{true, false}
 use Prim.Native.Nat.{ℕ, _*_, _≤_}
 use native.Mathlib.Nat.{mul-le-mul-right}
 use native.Mathlib.Omega.{arith}
-use lib.Ieee.{Float}
-use Rattle.number.specs.F64.{_⊗_}
+use lib.Ieee.{Float, ne}
+use Rattle.number.specs.F64.{_⊗_, _‼_, 0f}
+use Rattle.exponential.specs.Exp.{expOf}
 use Rattle.history.specs.Through.{Turned}
 use Rattle.vectors.specs.Vectors.{plus}
 use Rattle.filter.specs.Sample.{State, state, sampleBy}
+use Rattle.filter.specs.Zero.{gained}
+
+-- the gain of stage 0, by the test of the sample
+pub gained-loud : (c : List Float) (x : Float) → ne x 0f ≡ true → x ⊗ expOf (c ‼ 0) ≡ gained c x
+unfolding gained
+gained-loud c x t = rw t refl
+
+pub gained-still : (c : List Float) (x : Float) → ne x 0f ≡ false → x ≡ gained c x
+unfolding gained
+gained-still c x t = rw t refl
 
 pub sample-of : {Filter : Type 0} (gain : List Float → Float → Float) (df : List Float → Filter → Float → Turned Filter Float)
     (volume x loud y : Float) (increments c after : List Float) (f g : Filter)

@@ -1,7 +1,9 @@
 -- `gain` meets its contract. Assumes nothing.
 use borrow.Author.Needs.{needs}
-use mathlib.Core.Path.{_≡_, refl}
-use Rattle.filter.specs.Zero.{gained}
+use mathlib.Core.Path.{ap, _∙_}
+use Rattle.number.specs.F64.{_⊗_}
+use lib.Ieee.{Float}
+use Rattle.filter.proofs.FilterLaws.{gained-loud, gained-still}
 use Rattle.filter.proofs.zero.gain.Statement.{statement}
 use Rattle.filter.proofs.zero.gain.Tie as tie
 
@@ -12,12 +14,10 @@ exp-requires : tie.Need-exp-requires
 exp-requires c κs = search needs
 
 returns : tie.Need-returns
-unfolding gained
-returns c = rw (c .before .before .if1 .taken, c .exp .ensures .0) refl
+returns c = ap (λ (e : Float). c .before .before .before .before .args .x ⊗ e) (c .exp .ensures .0) ∙ gained-loud _ _ (c .before .before .if1 .taken)
 
 returns-2 : tie.Need-returns-2
-unfolding gained
-returns-2 c = rw (c .if1 .left) refl
+returns-2 c = gained-still _ _ (c .if1 .left)
 
 pub gain-spec : {M : Type 1} → statement M
 gain-spec = tie.close (tie.spec shared-slice-read-exp exp-requires returns returns-2)
