@@ -14,8 +14,9 @@ type Known = (
 
 const TWO_TO_53: f64 = 9_007_199_254_740_992.0;
 
-/// A group, whose sums are rounded in an order that shows in the last bit; two taps alone; none after the first two.
-const KNOWN: [Known; 3] = [
+/// A group, whose sums are rounded in an order that shows in the last bit; two taps alone; none after the first two; a group and
+/// a tap, whose two sums one sum would not give.
+const KNOWN: [Known; 4] = [
     (
         0.5,
         0.0,
@@ -33,6 +34,14 @@ const KNOWN: [Known; 3] = [
         &[0.0, 5.0, 1.0, 2.0],
     ),
     (0.5, 2.0, &[0.0, 4.0], &[0.0, 0.0], 0.0, &[1.0, 3.5]),
+    (
+        0.0,
+        0.0,
+        &[0.0, 1.0, TWO_TO_53, 0.0, 0.0, 1.0, 0.0],
+        &[1.0; 7],
+        TWO_TO_53 + 2.0,
+        &[0.0, 0.0, 1.0, TWO_TO_53, 0.0, 0.0, 1.0],
+    ),
 ];
 
 /// Whether the Rust gives what is known; every difference is printed.
