@@ -8,7 +8,7 @@ ghost use lib.Dec.{leb, eqb};
 ghost use lib.ListN.{length};
 ghost use Rattle.elementary.specs.Outcome.{inside, _then_};
 ghost use Rattle.generalized.specs.Generalized.{gnormOf, ignormOf, gc2gcOf};
-ghost use Rattle.lsp.specs.Lattice.{lsp2lpcOf};
+ghost use Rattle.lattice.specs.Lattice.{lsp2lpcOf};
 ghost use Rattle.lsp.specs.Lsp.{lsp2mgcOf, lsp2enOf};
 ghost use Rattle.stability.specs.Stability.{stableOf};
 ghost use Rattle.postfilter.specs.Pairs.{postfilterLspOf};
@@ -69,7 +69,7 @@ pub extern "C" fn kipawnore_lsp2lpc(lsp: &[f64], lpc: &mut [f64]) -> u64
     if lpc.len() != lsp.len() + 1 {
         return 1;
     }
-    number(lsp::lsp2lpc(lsp, lpc))
+    number(lattice::lsp2lpc(lsp, lpc))
 }
 
 #[no_mangle]

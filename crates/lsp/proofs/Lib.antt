@@ -1,2 +1,1 @@
-mod LatticeLaws
 mod LspLaws

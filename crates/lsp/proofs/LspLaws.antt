@@ -10,7 +10,7 @@ use Rattle.number.specs.F64.{−_, _‼_}
 use Rattle.elementary.specs.Outcome.{outside, inside}
 use Rattle.vectors.specs.Vectors.{energyOf, timesFrom}
 use Rattle.generalized.specs.Generalized.{ignormOf, mgc2mgcOf}
-use Rattle.lsp.specs.Lattice.{lsp2lpcOf}
+use Rattle.lattice.specs.Lattice.{lsp2lpcOf}
 use Rattle.lsp.specs.Lsp.{gainOf, lsp2mgcOf, lsp2enOf}
 
 module _ (log : Bool) (s : ℕ) (lsp : List Float) where

@@ -10,35 +10,8 @@ use Rattle.cosine.specs.Cos.{unitsOf, turnsOf, multiple, fold, restOf, alternat
 use Rattle.power.specs.Power.{products, digits, rootOfPattern, inversePowerOf, inverseRootOf}
 use Rattle.vectors.specs.Vectors.{sumFrom, grown, timesFrom}
 use Rattle.generalized.specs.Generalized.{gammaOf, gnormOf, ignormedBy, ignormOf, gc2gcEntry, gc2gcOf, mgc2mgcOf}
-use Rattle.lsp.specs.Lattice.{everyOther, weightsOf, inputs, output, predicted, lpcOf, lsp2lpcOf}
+use Rattle.lattice.specs.Lattice.{everyOther, weightsOf, inputs, output, predicted, lpcOf, lsp2lpcOf}
 use Rattle.lsp.specs.Lsp.{gainOf, lsp2mgcOf}
-
-pub entries-apart : everyOther (0f ∷ 1f ∷ 2f ∷ []) ≡ 0f ∷ 2f ∷ []
-unfolding everyOther
-entries-apart = refl
-
--- a chain of two sections of weights 1 and 2, at 1 in: what went in before was 2 and 1/2, and before that 1/2 and 1
-pub chain-inputs : inputs 1f (1f ∷ 2f ∷ []) (2f ∷ ½f ∷ []) (½f ∷ 1f ∷ []) ≡ 1f ∷ fin false 7 (negsuc 0) ∷ []
-unfolding inputs ofBits add mul
-chain-inputs = refl
-
-pub chain-output : output 1f (1f ∷ 2f ∷ []) (2f ∷ ½f ∷ []) (½f ∷ 1f ∷ []) ≡ fin false 11 (negsuc 0)
-unfolding output ofBits add mul
-chain-output = refl
-
--- two pairs at 0: 1 - 2 z + z^2; three: 1 - 3 z + 3 z^2 - z^3
-pub two-pairs : lsp2lpcOf (0f ∷ 0f ∷ []) ≡ inside (1f ∷ fin true 1 (pos 1) ∷ fin false 1 (pos 0) ∷ [])
-unfolding lsp2lpcOf weightsOf everyOther lpcOf predicted inputs output cosOf cosInsideOf unitsOf turnsOf multiple fold restOf alternating fallOf floatOf oneLess round ofBits ofInt add sub mul neg lt le eq
-two-pairs = refl
-
-pub three-pairs : lsp2lpcOf (0f ∷ 0f ∷ 0f ∷ []) ≡ inside (1f ∷ fin true 3 (pos 0) ∷ fin false 3 (pos 0) ∷ fin true 1 (pos 0) ∷ [])
-unfolding lsp2lpcOf weightsOf everyOther lpcOf predicted inputs output cosOf cosInsideOf unitsOf turnsOf multiple fold restOf alternating fallOf floatOf oneLess round ofBits ofInt add sub mul neg lt le eq
-three-pairs = refl
-
--- entry 0 is read: past 2^20 its cosine is outside
-pub first-entry-outside : lsp2lpcOf (fin false 0x100001 (pos 0) ∷ 0f ∷ []) ≡ outside
-unfolding lsp2lpcOf weightsOf everyOther cosOf ofBits neg lt le eq
-first-entry-outside = refl
 
 -- the cepstrum of [1, 0] without log gain, at stage 1: the gain 1 comes to -0, and the second entry is 1 + cos 1
 pub cepstrum-of-two : lsp2mgcOf false 1 (1f ∷ 0f ∷ []) ≡ inside (fin true 0 (pos 0) ∷ fin false 3468452445372835 (negsuc 50) ∷ [])

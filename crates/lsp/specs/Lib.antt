@@ -1,3 +1,2 @@
-pub mod Lattice
 pub mod Lsp
 pub mod Examples

@@ -10,7 +10,7 @@ use Rattle.elementary.specs.Outcome.{Outcome, inside, _then_}
 use Rattle.exponential.specs.Exp.{expOf}
 use Rattle.vectors.specs.Vectors.{energyOf, timesFrom}
 use Rattle.generalized.specs.Generalized.{ignormOf, mgc2mgcOf}
-use Rattle.lsp.specs.Lattice.{lsp2lpcOf}
+use Rattle.lattice.specs.Lattice.{lsp2lpcOf}
 
 -- entry 0 is the gain, or its logarithm
 unfoldable pub gainOf : (logGain : Bool) → Float → Float

@@ -3,38 +3,11 @@ ghost use mathlib.Core.Path.{_≡_};
 ghost use Prim.Native.Nat.{_+_, _≤_};
 ghost use lib.ListN.{length};
 ghost use Rattle.elementary.specs.Outcome.{preparedOf, orElse, answerOf};
-ghost use Rattle.lsp.specs.Lattice.{lsp2lpcOf};
+ghost use Rattle.lattice.specs.Lattice.{lsp2lpcOf};
 ghost use Rattle.lsp.specs.Lsp.{gainOf, lsp2mgcOf, lsp2enOf};
 use elementary::answer::Answer;
 use elementary::answer::Prepared;
-
-mod lattice;
-
-// Linear prediction of one entry more than there are pairs. Where a cosine is outside, it stays.
-pub fn lsp2lpc(lsp: &[f64], lpc: &mut [f64]) -> Prepared
-    requires { ⌜ (1 ≤ length (now lsp)) × (length (now lsp) ≤ 64) × (length (now lpc) ≡ length (now lsp) + 1) ⌝ }
-    ensures { λ r. ⌜ r ≡ preparedOf (lsp2lpcOf (now (lsp .entry))) ⌝ }
-    ensures { λ _. ⌜ now (lpc .exit) ≡ orElse (now (lpc .entry)) (lsp2lpcOf (now (lsp .entry))) ⌝ }
-{
-    let mh1 = (lsp.len() + 1) / 2;
-    let mh2 = lsp.len() / 2;
-    let mut p = [0.0; 32];
-    let mut q = [0.0; 32];
-    let mut a1 = [0.0; 32];
-    let mut a2 = [0.0; 32];
-    let mut b1 = [0.0; 32];
-    let mut b2 = [0.0; 32];
-    lattice::lpc_in(
-        lsp,
-        &mut p[0..mh1],
-        &mut q[0..mh2],
-        &mut a1[0..mh1],
-        &mut a2[0..mh1],
-        &mut b1[0..mh2],
-        &mut b2[0..mh2],
-        lpc,
-    )
-}
+use lattice::lsp2lpc;
 
 // The gain, of entry 0.
 fn gain(x: f64, log: bool) -> f64

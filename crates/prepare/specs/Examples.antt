@@ -11,7 +11,7 @@ use Rattle.power.specs.Power.{products, digits, rootOfPattern, inversePowerOf, 
 use Rattle.vectors.specs.Vectors.{sumFrom, energyOf, grown, timesFrom}
 use Rattle.cepstrum.specs.Cepstrum.{unwarped, mc2bOf}
 use Rattle.generalized.specs.Generalized.{gammaOf, gnormOf, ignormedBy, ignormOf, gc2gcEntry, gc2gcOf, mgc2mgcOf}
-use Rattle.lsp.specs.Lattice.{everyOther, weightsOf, inputs, output, predicted, lpcOf, lsp2lpcOf}
+use Rattle.lattice.specs.Lattice.{everyOther, weightsOf, inputs, output, predicted, lpcOf, lsp2lpcOf}
 use Rattle.lsp.specs.Lsp.{gainOf, lsp2mgcOf, lsp2enOf}
 use Rattle.postfilter.specs.Mel.{postfilterMcpOf}
 use Rattle.postfilter.specs.Pairs.{movedOf, spreadEntry, spreadOf, levelled, filteredLsp, postfilterLspOf}

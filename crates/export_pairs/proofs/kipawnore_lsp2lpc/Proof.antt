@@ -1,7 +1,7 @@
 -- `kipawnore_lsp2lpc` meets its contract: a test of the limits, and the function that it calls. Assumes nothing.
 use mathlib.Core.Path.{refl, sym, _∙_}
 use borrow.Author.Tests.{not-true, not-false, eq-eqb, ne-eqb}
-use Rattle.lsp.specs.Lattice.{lsp2lpcOf}
+use Rattle.lattice.specs.Lattice.{lsp2lpcOf}
 use Rattle.limits.proofs.LimitsLaws.{entries-in, number-of}
 use borrow.Author.Needs.{needs}
 use Rattle.export_pairs.proofs.kipawnore_lsp2lpc.Statement.{statement}

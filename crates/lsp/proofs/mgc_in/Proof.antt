@@ -4,7 +4,7 @@ use native.Mathlib.Omega.{arith}
 use lib.ListN.{length, set, length-set}
 use Rattle.elementary.proofs.OutcomeLaws.{is-outside, is-inside}
 use Rattle.generalized.specs.Generalized.{ignormOf}
-use Rattle.lsp.specs.Lattice.{lsp2lpcOf}
+use Rattle.lattice.specs.Lattice.{lsp2lpcOf}
 use Rattle.number.proofs.Floats.{small-float}
 use Rattle.lsp.proofs.LspLaws.{mgc-outside-lpc, mgc-outside-gain, mgc-of}
 use borrow.Author.Needs.{needs}
