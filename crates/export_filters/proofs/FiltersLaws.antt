@@ -1,12 +1,12 @@
 -- What the tests say of lengths and stages. Assumes nothing.
-use mathlib.Core.Path.{_≡_, refl}
+use mathlib.Core.Path.{_≡_}
 use mathlib.Core.Bool.{true, _&&_}
 use Prim.Native.Nat.{ℕ, _*_, _≤_}
 use borrow.Author.Tests.{eqb-true}
 use lib.Dec.{eqb}
 use Rattle.number.proofs.Floats.{both-first, both-second}
 use Rattle.limits.specs.Limits.{entriesOf, stageOf}
-use Rattle.limits.proofs.LimitsLaws.{entries-in, stage-in}
+use Rattle.limits.proofs.LimitsLaws.{entries-in}
 use Rattle.export_filters.specs.Filters.{zeroFits, nonzeroFits}
 
 pub zero-in : (n m d11 d12 d21 d22 : ℕ) → zeroFits n m d11 d12 d21 d22 ≡ true

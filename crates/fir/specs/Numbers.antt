@@ -5,7 +5,7 @@ use mathlib.Core.Bool.{false, true}
 use mathlib.Core.List.{List, [], _∷_}
 use lib.IntN.{pos, negsuc}
 use lib.ListN.{replicate}
-use lib.Ieee.{Float, fin, binary64, ofBits, add, sub, mul, neg}
+use lib.Ieee.{Float, fin, ofBits, add, sub, mul, neg}
 use Rattle.number.specs.F64.{_⊕_, _⊖_, _⊗_, −_, 1f, _‼_}
 use Rattle.fir.specs.Fir.{Taps, start, singles, firOf}
 

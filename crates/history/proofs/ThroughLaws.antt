@@ -1,10 +1,9 @@
 -- Samples may be turned in parts, cut anywhere, and in the buffer that they stand in. Assumes nothing.
-use mathlib.Core.Path.{_≡_, refl, sym, ap, _∙_}
+use mathlib.Core.Path.{_≡_, refl, ap}
 use mathlib.Core.List.{List, [], _∷_, _++_, append-nil}
 use Prim.Native.Nat.{ℕ, suc, _+_, _≤_, _<_}
 use native.Mathlib.Nat.{le-refl}
 use native.Mathlib.Numerals.{add-one}
-use native.Mathlib.Omega.{arith}
 use lib.ListN.{length, getD, take, drop, set}
 use lib.Seq.{take-all, take-suc-set, drop-set-lt, append-snoc}
 use Rattle.number.proofs.Lists.{left-next, left-none}

@@ -4,8 +4,8 @@ use mathlib.Core.List.{[], _∷_}
 use mathlib.Core.Bool.{true, false}
 use lib.IntN.{pos, negsuc}
 use lib.Ieee.{fin, ofBits, ofInt, toBits, round, add, sub, mul, div, neg, lt, le, eq}
-use Rattle.number.specs.F64.{0f, ½f, 1f, 2f}
-use Rattle.elementary.specs.Outcome.{outside, inside}
+use Rattle.number.specs.F64.{0f, 1f}
+use Rattle.elementary.specs.Outcome.{inside}
 use Rattle.cosine.specs.Cos.{unitsOf, turnsOf, multiple, fold, restOf, alternating, fallOf, floatOf, oneLess, cosInsideOf, cosOf}
 use Rattle.power.specs.Power.{products, digits, rootOfPattern, inversePowerOf, inverseRootOf}
 use Rattle.vectors.specs.Vectors.{sumFrom, grown, timesFrom}

@@ -3,7 +3,6 @@ ghost use mathlib.Core.Path.{_≡_};
 ghost use Prim.Native.Nat.{_+_, _≤_};
 ghost use lib.ListN.{length};
 ghost use Rattle.elementary.specs.Outcome.{preparedOf, orElse, answerOf};
-ghost use Rattle.lattice.specs.Lattice.{lsp2lpcOf};
 ghost use Rattle.lsp.specs.Lsp.{gainOf, lsp2mgcOf, lsp2enOf};
 use elementary::answer::Answer;
 use elementary::answer::Prepared;

@@ -1,6 +1,6 @@
 -- `nonzero_case` stays within the text: eight rows of 64 taps are 512. Assumes nothing.
 use borrow.Author.Needs.{needs}
-use Prim.Native.Nat.{ℕ, _*_, _≤_}
+use Prim.Native.Nat.{_*_, _≤_}
 use native.Mathlib.Nat.{mul-le-mul-right}
 use native.Mathlib.Omega.{arith}
 use Rattle.filters.proofs.nonzero_case.Statement.{statement}

@@ -2,7 +2,6 @@
 use borrow.Author.Needs.{needs}
 use Prim.Native.Nat.{_≤_, _-_}
 use lib.ListN.{length}
-use native.Mathlib.Omega.{arith}
 use Rattle.filters.proofs.replay.Statement.{statement}
 use Rattle.filters.proofs.replay.Tie as tie
 

@@ -1,7 +1,7 @@
 -- `warp` meets its contract: the taps that are left make of the row here what all of them make of it at the start. Assumes nothing.
 use borrow.Author.Needs.{needs}
 use mathlib.Core.Path.{_≡_, refl, sym, ap, _∙_}
-use Prim.Native.Nat.{ℕ, _+_, _-_, _≤_}
+use Prim.Native.Nat.{_+_, _-_, _≤_}
 use native.Mathlib.Omega.{arith}
 use lib.ListN.{length}
 use Rattle.mglsa.specs.Mglsa.{passed, warps, warped}

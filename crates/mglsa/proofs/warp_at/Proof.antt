@@ -1,6 +1,6 @@
 -- `warp_at` meets its contract. Assumes nothing.
 use borrow.Author.Needs.{needs}
-use mathlib.Core.Path.{_≡_, refl}
+use mathlib.Core.Path.{refl}
 use Rattle.mglsa.specs.Mglsa.{warpAt}
 use Rattle.mglsa.proofs.warp_at.Statement.{statement}
 use Rattle.mglsa.proofs.warp_at.Tie as tie

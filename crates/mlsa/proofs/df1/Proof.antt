@@ -1,7 +1,7 @@
 -- `df1` meets its contract: the rows that are left make of the part here what all five make of it at the start. Assumes nothing.
 use borrow.Author.Needs.{needs}
 use mathlib.Core.Path.{_≡_, refl, sym, ap, _∙_}
-use Prim.Native.Nat.{ℕ, _+_, _-_, _≤_, _<_}
+use Prim.Native.Nat.{_+_, _-_, _≤_}
 use native.Mathlib.Omega.{arith}
 use lib.ListN.{length, length-set}
 use Rattle.mlsa.specs.Mlsa.{part, firstRow, downward, ended, df1Of}

@@ -1,6 +1,6 @@
 -- `first_row` meets its contract. Assumes nothing.
 use borrow.Author.Needs.{needs}
-use mathlib.Core.Path.{_≡_, refl}
+use mathlib.Core.Path.{refl}
 use Rattle.mlsa.specs.Mlsa.{firstRow}
 use Rattle.mlsa.proofs.first_row.Statement.{statement}
 use Rattle.mlsa.proofs.first_row.Tie as tie

@@ -1,9 +1,8 @@
 -- `second_row` meets its contract: the row of taps lies within d21. Assumes nothing.
 use borrow.Author.Needs.{needs}
-use mathlib.Core.Path.{_≡_, refl}
-use Prim.Native.Nat.{ℕ, _+_, _-_, _*_, _≤_}
+use mathlib.Core.Path.{refl}
+use Prim.Native.Nat.{_-_}
 use native.Mathlib.Omega.{arith}
-use lib.ListN.{length}
 use Rattle.mlsa.specs.Mlsa.{secondRow}
 use Rattle.mlsa.proofs.MlsaLaws.{row-within}
 use Rattle.mlsa.proofs.second_row.Statement.{statement}

@@ -1,6 +1,6 @@
 -- `weigh` meets its contract. Assumes nothing.
 use borrow.Author.Needs.{needs}
-use mathlib.Core.Path.{_≡_, refl}
+use mathlib.Core.Path.{refl}
 use borrow.Author.Tests.{eq-eqb, ne-eqb}
 use Rattle.mlsa.specs.Mlsa.{weighed}
 use Rattle.mlsa.proofs.weigh.Statement.{statement}

@@ -3,7 +3,6 @@ use borrow.Author.Needs.{needs}
 use native.Mathlib.Omega.{arith}
 use mathlib.Core.Path.{_≡_}
 use lib.ListN.{length}
-use Prim.Native.Nat.{ℕ}
 use Rattle.filter.proofs.zero.stretch.Statement.{statement}
 use Rattle.filter.proofs.zero.stretch.Tie as tie
 
