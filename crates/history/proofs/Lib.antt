@@ -1,2 +1,3 @@
 pub mod StepLaws
 pub mod ThroughLaws
+pub mod FeedingLaws

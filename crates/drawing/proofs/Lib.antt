@@ -1,0 +1,4 @@
+pub mod KeepLaws
+pub mod StepLaws
+pub mod SoundLaws
+pub mod DrawLaws

@@ -1,0 +1,120 @@
+-- The parts that the code lends of a voice, and what it puts back. Assumes nothing.
+use mathlib.Core.Path.{_≡_, refl, sym, ap, _∙_}
+use mathlib.Core.Bool.{true, false}
+use mathlib.Core.List.{List, [], _∷_, _++_}
+use Prim.Native.Nat.{ℕ, _+_, _-_, _≤_, _<_}
+use native.Mathlib.Omega.{arith}
+use lib.Dec.{eqb}
+use lib.ListN.{length, take, drop, length-append, length-drop}
+use lib.Seq.{drop-append-seam, take-append-seam}
+use lib.Ieee.{Float}
+use Rattle.number.specs.Lists.{over, row, putRow}
+use Rattle.history.specs.Steps.{Step, Run, steps}
+use Rattle.history.specs.Through.{Passage, passage, through}
+use Rattle.history.specs.Feeding.{Feeding, feeding, fed}
+use Rattle.history.proofs.ThroughLaws.{through-length}
+use Rattle.history.proofs.FeedingLaws.{thenThrough, fed-steps, putPassage, through-within}
+use Rattle.noise.specs.declared.Random.{Random}
+use Rattle.pulse.specs.declared.Pulse.{Pulse}
+use Rattle.excitation.specs.Excitation as excitation
+use Rattle.excitation.specs.Excitation.{Excitation, stepOf, stretchOf}
+use Rattle.mlsa.specs.declared.MelLogSpectrumApproximation.{MelLogSpectrumApproximation}
+use Rattle.mglsa.specs.declared.MelGeneralizedLogSpectrumApproximation.{MelGeneralizedLogSpectrumApproximation}
+use Rattle.filter.specs.Sample.{State, state}
+use Rattle.filter.specs.Zero as zeroStage
+use Rattle.filter.specs.NonZero as otherStages
+use Rattle.voice.specs.declared.Voice.{Voice}
+use Rattle.voice.specs.Voice.{inFront}
+use Rattle.voice.proofs.FrontLaws.{lent-front, put-front}
+use Rattle.drawing.specs.Step.{Filters, filters, tapsOf, incrementsOf, excitationOf, filtersOf, soundOf, moved, withExcitation, withFilters, withSound, counted, closedAtEnd, turnOf, soundStep, step, filtered}
+use Rattle.drawing.proofs.StepLaws.{Long, samples-are, finished}
+
+module _ (v : Voice) where
+  abbrev lentLine : List Float → List Float
+  lentLine array = row 0 (v .configuration .nlpf) array
+
+  abbrev lentEntries : List Float → List Float
+  lentEntries array = row 0 (v .configuration .nmcp) array
+
+  -- the excitation, as the code asks for it
+  abbrev pub excited : ℕ → ℕ → Run Excitation Float
+  excited bound n = stretchOf bound (lentLine (v .lpf)) n (excitation.state (v .pulse) (v .random) (lentLine (v .line)))
+
+  pub excited-is : (bound n : ℕ) → excited bound n ≡ stretchOf bound (tapsOf v) n (excitationOf v)
+  excited-is bound n = rw (lent-front (v .configuration .nlpf) (v .lpf), lent-front (v .configuration .nlpf) (v .line)) refl
+
+  -- the voice with an excitation, as the code builds it
+  pub excited-voice : (e : Excitation) (pulse : Pulse) (random : Random) (line : List Float) → excitation.state pulse random line ≡ e → length line ≡ v .configuration .nlpf
+      → moved v (v .meter) (v .left) pulse random (putRow 0 (v .configuration .nlpf) line (v .line)) (v .coefficients) (v .zero) (v .nonzero) ≡ withExcitation e v
+  excited-voice e pulse random line h n = rw (← h, put-front (v .configuration .nlpf) (v .line) line n) refl
+
+  -- the filters over some samples
+  pub filtered-zero : (xs out c : List Float) (taps : MelLogSpectrumApproximation) → eqb (v .configuration .stage) 0 ≡ true → length c ≡ v .configuration .nmcp
+      → passage out (state c taps) ≡ through (zeroStage.sampleOf (v .configuration .alpha) (v .configuration .volume) (lentEntries (v .increments))) (state (lentEntries (v .coefficients)) (v .zero)) xs
+      → passage out (moved v (v .meter) (v .left) (v .pulse) (v .random) (v .line) (putRow 0 (v .configuration .nmcp) c (v .coefficients)) taps (v .nonzero)) ≡ filtered v xs
+  unfolding filtered turnOf
+  filtered-zero xs out c taps s n h =
+      let k = v .configuration .nmcp in
+      let inside = through-within (λ (f : Filters). state (f .c) (f .zero)) (λ (t : State MelLogSpectrumApproximation) (f : Filters). filters (t .c) (t .filter) (f .nonzero))
+      (zeroStage.sampleOf (v .configuration .alpha) (v .configuration .volume) (incrementsOf v)) (λ (f : Filters). refl) (λ (t : State MelLogSpectrumApproximation) (f : Filters). refl) (λ (t u : State MelLogSpectrumApproximation) (f : Filters). refl) (filtersOf v) xs in
+      let asked = rw (lent-front k (v .increments), lent-front k (v .coefficients)) at h in
+      rw (s, inside, ← asked, put-front k (v .coefficients) c n) refl
+
+  pub filtered-nonzero : (xs out c : List Float) (taps : MelGeneralizedLogSpectrumApproximation) → eqb (v .configuration .stage) 0 ≡ false → length c ≡ v .configuration .nmcp
+      → passage out (state c (taps .d)) ≡ through (otherStages.sampleOf (v .configuration .alpha) (v .configuration .stage) (v .configuration .volume) (lentEntries (v .increments))) (state (lentEntries (v .coefficients)) (v .nonzero .d)) xs
+      → passage out (moved v (v .meter) (v .left) (v .pulse) (v .random) (v .line) (putRow 0 (v .configuration .nmcp) c (v .coefficients)) (v .zero) taps) ≡ filtered v xs
+  unfolding filtered turnOf
+  filtered-nonzero xs out c taps s n h =
+      let k = v .configuration .nmcp in
+      let inside = through-within (λ (f : Filters). state (f .c) (f .nonzero)) (λ (t : State (List Float)) (f : Filters). filters (t .c) (f .zero) (t .filter))
+      (otherStages.sampleOf (v .configuration .alpha) (v .configuration .stage) (v .configuration .volume) (incrementsOf v)) (λ (f : Filters). refl) (λ (t : State (List Float)) (f : Filters). refl) (λ (t u : State (List Float)) (f : Filters). refl) (filtersOf v) xs in
+      let asked = rw (lent-front k (v .increments), lent-front k (v .coefficients)) at h in
+      rw (s, inside, ← asked, put-front k (v .coefficients) c n) refl
+
+-- ---- both passes
+
+-- what a buffer holds whose first entries were filled and then turned
+pub turned-over : (xs ys before : List Float) (n : ℕ) → length xs ≡ n → length ys ≡ n → putRow 0 n ys (over xs n before) ≡ over ys n before
+turned-over xs ys before n h k =
+    put-front n (over xs n before) ys k ∙ ap (λ (l : List Float). ys ++ l) (rw (k, ← h) (drop-append-seam xs (drop (length xs) before)))
+
+pub lent-made : (xs before : List Float) (n : ℕ) → length xs ≡ n → row 0 n (over xs n before) ≡ xs
+lent-made xs before n h = lent-front n (over xs n before) ∙ rw (← h) (take-append-seam xs (drop (length xs) before))
+
+module _ (bound n : ℕ) (v : Voice) (l : Long v) (some : 0 < v .left) (few : n ≤ v .left) where
+  abbrev source : Run Excitation Float
+  source = stretchOf bound (tapsOf v) n (excitationOf v)
+
+  abbrev passed : Passage Filters Float
+  passed = through (turnOf (v .configuration) (incrementsOf v)) (filtersOf v) (source .made)
+
+  -- the samples are those of the two passes, and so is the voice once they are counted
+  pub two-passes : steps (step bound) n v ≡ record { made = passed .made; state = closedAtEnd (counted (length (source .made)) (withFilters (passed .state) (withExcitation (source .state) v))); isDry = source .isDry }
+  unfolding thenThrough
+  two-passes =
+      samples-are bound n v l some few
+      ∙ ap (finished v) (fed-steps (turnOf (v .configuration) (incrementsOf v)) (stepOf bound (tapsOf v)) n (excitationOf v) (filtersOf v))
+      ∙ rw (through-length (turnOf (v .configuration) (incrementsOf v)) (filtersOf v) (source .made)) refl
+
+  -- what the code's three calls leave
+  module _ (fed filtering last : Voice) (made : ℕ) (filled part before : List Float)
+      (is-fed : fed ≡ withExcitation (source .state) v) (is-made : made ≡ length (source .made)) (is-filled : filled ≡ over (source .made) made before)
+      (is-filtered : passage part filtering ≡ filtered fed (row 0 made filled)) (is-last : last ≡ closedAtEnd (counted made filtering)) where
+    through-both : passage part filtering ≡ passage (passed .made) (withFilters (passed .state) (withExcitation (source .state) v))
+    unfolding filtered
+    through-both = is-filtered ∙ rw (is-fed, is-filled, lent-made (source .made) before made (sym is-made)) refl
+
+    pub sounded-is : (last ≡ steps (step bound) n v .state) × (made ≡ length (steps (step bound) n v .made)) × (putRow 0 made part filled ≡ over (steps (step bound) n v .made) made before)
+    sounded-is =
+        let out : part ≡ passed .made = ap (λ (p : Passage Voice Float). p .made) through-both in
+        let on : filtering ≡ withFilters (passed .state) (withExcitation (source .state) v) = ap (λ (p : Passage Voice Float). p .state) through-both in
+        let count : length (passed .made) ≡ made = through-length (turnOf (v .configuration) (incrementsOf v)) (filtersOf v) (source .made) ∙ sym is-made in
+        (is-last ∙ rw (two-passes, on, is-made) refl, rw two-passes (sym count), rw (two-passes, out, is-filled) (turned-over (source .made) (passed .made) before made (sym is-made) count))
+
+-- the filter leaves the configuration and the counts
+pub filtered-keeps : (e : Excitation) (v fed filtering : Voice) (part xs : List Float) → fed ≡ withExcitation e v → passage part filtering ≡ filtered fed xs
+    → (filtering .configuration ≡ v .configuration) × (filtering .left ≡ v .left) × (filtering .meter ≡ v .meter)
+unfolding filtered
+filtered-keeps e v fed filtering part xs h k =
+    let on : filtering ≡ filtered (withExcitation e v) xs .state = ap (λ (p : Passage Voice Float). p .state) (rw h at k) in
+    (rw on refl, rw on refl, rw on refl)

@@ -1,0 +1,64 @@
+-- `excite` meets its contract: what is lent of the line and of the taps is their front. Assumes nothing.
+use borrow.Author.Needs.{needs}
+use mathlib.Core.Path.{_≡_, refl, sym, ap, _∙_}
+use native.Mathlib.Omega.{arith}
+use lib.ListN.{length}
+use Rattle.configuration.proofs.LimitsLaws.{sizes}
+use Rattle.voice.proofs.FrontLaws.{lent-length}
+use Rattle.noise.specs.Draw.{tries}
+use Rattle.drawing.proofs.SoundLaws.{excited-is, excited-voice}
+use Rattle.drawing.proofs.sound.excite.Statement.{statement}
+use Rattle.drawing.proofs.sound.excite.Tie as tie
+
+-- an array of the voice has 64 entries
+long-line : (c : tie.Start) → length (c .args .voice .line) ≡ 64
+long-line c = search needs
+
+long-lpf : (c : tie.Start) → length (c .args .voice .lpf) ≡ 64
+long-lpf c = search needs
+
+sub-stretch : tie.Need-sub-stretch
+sub-stretch c = search needs
+
+part-line-start : tie.Need-part-line-start
+part-line-start c = search needs
+
+part-line-end : tie.Need-part-line-end
+part-line-end c = omega (arith, sizes (c .before .before .before .before .before .before .args .voice .configuration) (c .before .before .before .before .before .before .pre) .nlpf-most, long-line (c .before .before .before .before .before .before))
+
+sub-stretch-2 : tie.Need-sub-stretch-2
+sub-stretch-2 c = search needs
+
+part-stretch-start : tie.Need-part-stretch-start
+part-stretch-start c = search needs
+
+part-stretch-end : tie.Need-part-stretch-end
+part-stretch-end c = omega (arith, sizes (c .before .before .before .before .before .before .before .before .args .voice .configuration) (c .before .before .before .before .before .before .before .before .pre) .nlpf-most, long-lpf (c .before .before .before .before .before .before .before .before))
+
+stretch-requires : tie.Need-stretch-requires
+stretch-requires c κs = search needs
+
+same-length : tie.Need-same-length
+same-length c = search needs
+
+returns : tie.Need-returns
+returns c =
+    let n = c .before .before .before .before .before .before .before .before .before .before .before .before .before .before .before .before .args .voice .configuration .nlpf in
+    let line : length (c .before .before .before .before .before .stretch .last .1 .1 .0) ≡ n = c .before .before .before .before .before .stretch .kept .1 .1 .0 ∙ lent-length n (c .before .before .before .before .before .before .before .before .before .before .before .before .before .before .before .before .args .voice .line) (omega (arith, sizes (c .before .before .before .before .before .before .before .before .before .before .before .before .before .before .before .before .args .voice .configuration) (c .before .before .before .before .before .before .before .before .before .before .before .before .before .before .before .before .pre) .nlpf-most, long-line (c .before .before .before .before .before .before .before .before .before .before .before .before .before .before .before .before))) in
+    let same = excited-is (c .before .before .before .before .before .before .before .before .before .before .before .before .before .before .before .before .args .voice) tries (length (c .before .before .before .before .before .before .before .before .before .before .before .before .before .before .before .before .args .samples .now)) in
+    let e = c .before .before .before .before .before .stretch .ensures in
+    (excited-voice (c .before .before .before .before .before .before .before .before .before .before .before .before .before .before .before .before .args .voice) _ _ _ _ (rw same at (e .0)) line, (rw same at (e .1 .0), rw same at (e .1 .1)))
+
+pub excite-spec : {M : Type 1} → statement M
+excite-spec =
+    tie.close
+    (tie.spec
+    sub-stretch
+    part-line-start
+    part-line-end
+    sub-stretch-2
+    part-stretch-start
+    part-stretch-end
+    stretch-requires
+    same-length
+    returns)

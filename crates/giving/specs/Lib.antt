@@ -1,0 +1,3 @@
+pub mod Pitch
+pub mod Begin
+pub mod Give

@@ -1,0 +1,2 @@
+pub mod EveryLaws
+pub mod EarlierLaws

@@ -1,0 +1,2 @@
+pub mod IdleLaws
+pub mod FrontLaws
