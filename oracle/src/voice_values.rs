@@ -101,7 +101,7 @@ fn other_ends(random: &mut Generator) -> (f64, f64, f64) {
 /// A voice that keeps restore's rules, in a state that perhaps no frame leads to: any values in it, of which one in
 /// so many is of any kind, and any number of samples left.
 pub fn any_voice(configuration: Configuration, random: &mut Generator) -> Voice {
-    let one_in = 1 << random.below(10);
+    let one_in = 4 << random.below(10);
     let Configuration {
         nmcp,
         nlpf,
