@@ -21,7 +21,7 @@ const STATES: usize = 1_000;
 /// Each breaks a rule of a voice that keeps them; a frame is of two samples or more.
 type Break = fn(&mut Voice);
 
-const RULES: [Break; 8] = [
+const RULES: [Break; 9] = [
     |voice| voice.random.used = 65,
     |voice| voice.random.used = usize::MAX,
     |voice| voice.left = usize::MAX,
@@ -41,7 +41,17 @@ const RULES: [Break; 8] = [
         voice.left = 1;
         voice.meter = u64::MAX;
     },
-    |voice| voice.first = true,
+    // A first frame is to come, but one is counted, or left.
+    |voice| {
+        voice.first = true;
+        voice.left = 0;
+        voice.meter = voice.configuration.fperiod as u64;
+    },
+    |voice| {
+        voice.first = true;
+        voice.left = voice.configuration.fperiod;
+        voice.meter = 0;
+    },
 ];
 
 /// The same for the limits of a configuration.
