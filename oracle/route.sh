@@ -31,6 +31,14 @@ check_none_left() {
     fi
 }
 
+# The routed mod.rs of folder $1 as the driver includes it, where the files that it declares are modules of the driver's own: without
+# these nine declarations, and without the three lines that may stand only at the head of a file or go with a declaration.
+lay_out_vocoder() {
+    local whole=$1/src/vocoder/mod.rs part=$1/src/vocoder/vocoder.rs
+    grep -vE '^(//!|#!\[allow|#\[macro_use\]$|mod [a-z]+;$)' "$whole" >"$part"
+    [ $(($(wc -l <"$whole") - $(wc -l <"$part"))) = 12 ] || fail "$whole does not have nine modules and three more such lines"
+}
+
 # Lays out the routed crate, from the copies that check_pin has held to the pinned ones.
 lay_out_routed() {
     local copy=$package/routed
@@ -39,4 +47,5 @@ lay_out_routed() {
     cp -r "$package/src/constants.rs" "$package/src/vocoder" "$here"/routed/*.rs "$copy/src/"
     make_edits "$copy"
     check_none_left "$copy"
+    lay_out_vocoder "$copy"
 }

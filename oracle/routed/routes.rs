@@ -8,7 +8,7 @@ const MOST_ANGLE: f64 = (1 << 20) as f64;
 const MOST_BASE: f64 = (1_u128 << 120) as f64;
 
 /// The function that is asked. The powers carry s: their exponents are -s and -1/s.
-#[derive(Clone, Copy, Debug)]
+#[derive(Clone, Copy, Debug, PartialEq, Eq, Hash)]
 pub enum Function {
     Exp,
     Ln,

@@ -5,11 +5,14 @@ use crate::filter;
 use crate::ours::Operation;
 use crate::spectrum;
 use crate::stretches::{Outcome, Request};
+use crate::voice;
+use crate::voice_structs::{Configuration, Voice};
+use crate::voice_words::VOICE_WORDS;
 use std::io::{Read, Result, Write};
 use std::process::{Child, ChildStdin, ChildStdout, Command, Stdio};
 
-/// The excitation's functions and, under one number each, those on spectra and the filters: the bridge's
-/// numbers. A request is one call.
+/// The excitation's functions and, under one number each, those on spectra, the filters and the voices: the
+/// bridge's numbers. A request is one call.
 #[derive(Clone, Copy)]
 enum Call {
     Stretch = 11,
@@ -17,6 +20,15 @@ enum Call {
     End = 13,
     Spectrum = 14,
     Filter = 15,
+    Voice = 16,
+}
+
+/// What is done with a voice beside its calls.
+#[derive(Clone, Copy)]
+enum Access {
+    Open = 3,
+    Read = 4,
+    Write = 5,
 }
 
 pub struct Bridge {
@@ -75,6 +87,30 @@ impl Bridge {
         let answers = 1 + request.arrays.all().map(Vec::len).sum::<usize>();
         let words = self.call(Call::Filter, &request.words(), answers);
         filter::Outcome::read(&mut words.into_iter(), request).expect("words enough")
+    }
+
+    pub fn open_voice(&mut self, slot: usize, configuration: Configuration) -> u64 {
+        self.voice(Access::Open as u64, slot, &configuration.words(), 1)[0]
+    }
+
+    pub fn call_voice(&mut self, slot: usize, call: &voice::Call) -> voice::Outcome {
+        let room = call.buffer.len();
+        let words = self.voice(call.kind as u64, slot, &call.words(), 2 + room);
+        voice::Outcome::read(&mut words.into_iter(), room).expect("words enough")
+    }
+
+    pub fn read_voice(&mut self, slot: usize) -> Voice {
+        let words = self.voice(Access::Read as u64, slot, &[], VOICE_WORDS);
+        Voice::read(&mut words.into_iter()).expect("words enough")
+    }
+
+    pub fn write_voice(&mut self, slot: usize, voice: &Voice) {
+        self.voice(Access::Write as u64, slot, &voice.words(), 0);
+    }
+
+    fn voice(&mut self, what: u64, slot: usize, words: &[u64], answers: usize) -> Vec<u64> {
+        let inputs: Vec<u64> = [what, slot as u64].iter().chain(words).copied().collect();
+        self.call(Call::Voice, &inputs, answers)
     }
 
     fn pulse(&mut self, call: Call, inputs: &[u64]) -> Pulse {

@@ -15,6 +15,7 @@ pub struct Settings {
     pub fperiod: usize,
 }
 
+#[derive(Clone)]
 pub struct Frame {
     pub lf0: f64,
     pub spectrum: Vec<f64>,

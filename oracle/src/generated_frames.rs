@@ -78,7 +78,7 @@ fn frame(settings: &Settings, index: usize, random: &mut Generator) -> Frame {
 
 /// Rising frequencies below PI. The pinned Rust takes entry 0, the gain, for the first of them, so
 /// the gain is one here: the filter is then stable, where the postfilter leaves the gain alone.
-fn pairs(nmcp: usize, random: &mut Generator) -> Vec<f64> {
+pub fn pairs(nmcp: usize, random: &mut Generator) -> Vec<f64> {
     let step = PI / (nmcp + 1) as f64;
     (1..=nmcp)
         .map(|place| step * (place as f64 + 0.6 * (random.unit() - 0.5)))

@@ -16,6 +16,9 @@ mod compare_frames;
 mod compare_spectrum;
 mod compare_spectrum_numbers;
 mod compare_sqrt;
+mod compare_voice;
+mod compare_voice_open;
+mod compare_voice_states;
 mod compare_wrapping;
 mod comparison;
 #[cfg(feature = "linked")]
@@ -42,10 +45,13 @@ mod hex_words;
 mod linked;
 mod ours;
 mod pairs_values;
+mod remembered;
 mod roots;
 mod rusts_excitation;
 mod rusts_filter;
 mod rusts_spectrum;
+mod rusts_vocoder;
+mod rusts_voice;
 mod sides;
 mod spectra;
 mod spectra_cases;
@@ -56,9 +62,26 @@ mod spectrum_cases;
 mod spectrum_tally;
 mod spectrum_values;
 mod stretches;
+mod voice;
+#[cfg(feature = "linked")]
+mod voice_calls;
+mod voice_frames;
+mod voice_numbers;
+mod voice_parts;
+mod voice_sides;
+mod voice_slots;
+mod voice_speaker;
+mod voice_structs;
+mod voice_tally;
+mod voice_values;
+mod voice_words;
+mod voices;
+mod voices_cases;
+mod voices_refused;
 
 use bridge::Bridge;
 use ours::Ours;
+use pinned::constants;
 use routed::routes;
 use std::cell::RefCell;
 use std::path::PathBuf;
@@ -66,8 +89,8 @@ use std::process::ExitCode;
 use std::rc::Rc;
 
 const SEED: u64 = 1;
-const USAGE: &str = "usage: oracle patterns | roots | excitations | spectra | filters, or, with our functions linked in or \
-                     behind a bridge, oracle compare|frames|stretches|prepared|filtered [EMULATOR BRIDGE]";
+const USAGE: &str = "usage: oracle patterns | roots | excitations | spectra | filters | voices, or, with our functions linked in or \
+                     behind a bridge, oracle compare|calls|frames|stretches|prepared|filtered|voiced [EMULATOR BRIDGE]";
 
 fn main() -> ExitCode {
     let words: Vec<String> = std::env::args().skip(1).collect();
@@ -78,8 +101,13 @@ fn main() -> ExitCode {
         ["excitations"] => printed(excitations::print_requests),
         ["spectra"] => printed(spectra::print_requests),
         ["filters"] => printed(filters::print_requests),
+        ["voices"] => print_voices(),
         #[cfg(feature = "linked")]
-        [what] => with(what, Ours::Linked, "linked into the driver"),
+        [what] => with(
+            what,
+            Ours::Linked(Box::new(voice_calls::Voices::idle())),
+            "linked into the driver",
+        ),
         [what, emulator, bridge] => Bridge::open(emulator, bridge)
             .map_err(|error| format!("the bridge does not start: {error}"))
             .and_then(|bridge| with(what, Ours::Bridge(bridge), "x86-64 code under an emulator")),
@@ -98,6 +126,11 @@ fn main() -> ExitCode {
 fn printed(print: fn()) -> Result<bool, String> {
     print();
     Ok(true)
+}
+
+fn print_voices() -> Result<bool, String> {
+    let folder = announcement_folder().ok_or("the announcement is not in ORACLE_FRAMES")?;
+    voices::print_cases(&folder).map(|()| true)
 }
 
 /// The seed of the random inputs: ORACLE_SEED, or a fixed one.
@@ -120,16 +153,17 @@ fn announcement_folder() -> Option<PathBuf> {
 fn with(what: &str, ours: Ours, reached: &str) -> Result<bool, String> {
     let ours = Rc::new(RefCell::new(ours));
     match what {
-        "compare" | "frames" => compare(what, &ours, reached),
+        "compare" | "calls" | "frames" => compare(what, &ours, reached),
         "stretches" => excitations::print_outcomes(ours).map(|()| true),
         "prepared" => spectra::print_outcomes(ours).map(|()| true),
         "filtered" => filters::print_outcomes(ours).map(|()| true),
+        "voiced" => voices::print_outcomes(&ours).map(|()| true),
         _ => Err(USAGE.to_string()),
     }
 }
 
-/// Runs every comparison, also after one that found a difference, or that of the frames alone. True
-/// where all were as they should be.
+/// Runs every comparison, also after one that found a difference, or that of the voices' calls or of the frames
+/// alone. True where all were as they should be.
 fn compare(what: &str, ours: &Rc<RefCell<Ours>>, reached: &str) -> Result<bool, String> {
     let seed = seed()?;
     println!("seed {seed}; our functions: {reached}");
@@ -149,5 +183,11 @@ fn compare(what: &str, ours: &Rc<RefCell<Ours>>, reached: &str) -> Result<bool, 
     if folder.is_none() {
         println!("the announcement is left out: its frames are not in ORACLE_FRAMES");
     }
-    Ok(compare_frames::run(ours, seed, folder.as_deref())? && equal)
+    if what != "frames" {
+        equal &= compare_voice::run(ours, seed, folder.as_deref())?;
+    }
+    if what != "calls" {
+        equal &= compare_frames::run(ours, seed, folder.as_deref())?;
+    }
+    Ok(equal)
 }

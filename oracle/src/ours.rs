@@ -12,9 +12,16 @@ use crate::spectrum;
 #[cfg(feature = "linked")]
 use crate::spectrum_calls;
 use crate::stretches::{Outcome, Request};
+use crate::voice;
+#[cfg(feature = "linked")]
+use crate::voice_calls::Voices;
+use crate::voice_structs::{Configuration, Voice};
 
 /// The most inputs in one block; the bridge has room for as many.
 pub const BLOCK: usize = 1 << 16;
+
+/// So many voices are kept side by side, each in its slot.
+pub const SLOTS: usize = 4;
 
 /// What to compute of a block of inputs. The numbers are the bridge's.
 #[derive(Clone, Copy, PartialEq)]
@@ -47,7 +54,7 @@ impl Operation {
 
 pub enum Ours {
     #[cfg(feature = "linked")]
-    Linked,
+    Linked(Box<Voices>),
     Bridge(Bridge),
 }
 
@@ -56,7 +63,7 @@ impl Ours {
     pub fn answers(&mut self, operation: Operation, inputs: &[u64]) -> Vec<u64> {
         match self {
             #[cfg(feature = "linked")]
-            Ours::Linked => inputs
+            Ours::Linked(_) => inputs
                 .chunks(operation.arity())
                 .map(|input| linked::answer(operation, input))
                 .collect(),
@@ -67,7 +74,7 @@ impl Ours {
     pub fn stretch(&mut self, request: &Request) -> Outcome {
         match self {
             #[cfg(feature = "linked")]
-            Ours::Linked => linked::stretch(request),
+            Ours::Linked(_) => linked::stretch(request),
             Ours::Bridge(bridge) => bridge.stretch(request),
         }
     }
@@ -75,7 +82,7 @@ impl Ours {
     pub fn start(&mut self, pulse: Pulse, voiced: bool, period: f64, fperiod: u64) -> Pulse {
         match self {
             #[cfg(feature = "linked")]
-            Ours::Linked => kipawnore_start(pulse, voiced, period, fperiod),
+            Ours::Linked(_) => kipawnore_start(pulse, voiced, period, fperiod),
             Ours::Bridge(bridge) => bridge.start(pulse, voiced, period, fperiod),
         }
     }
@@ -83,7 +90,7 @@ impl Ours {
     pub fn end(&mut self, pulse: Pulse) -> Pulse {
         match self {
             #[cfg(feature = "linked")]
-            Ours::Linked => kipawnore_end(pulse),
+            Ours::Linked(_) => kipawnore_end(pulse),
             Ours::Bridge(bridge) => bridge.end(pulse),
         }
     }
@@ -91,7 +98,7 @@ impl Ours {
     pub fn spectrum(&mut self, request: &spectrum::Request) -> spectrum::Outcome {
         match self {
             #[cfg(feature = "linked")]
-            Ours::Linked => spectrum_calls::outcome(request),
+            Ours::Linked(_) => spectrum_calls::outcome(request),
             Ours::Bridge(bridge) => bridge.spectrum(request),
         }
     }
@@ -99,8 +106,41 @@ impl Ours {
     pub fn filter(&mut self, request: &filter::Request) -> filter::Outcome {
         match self {
             #[cfg(feature = "linked")]
-            Ours::Linked => linked::filter(request),
+            Ours::Linked(_) => linked::filter(request),
             Ours::Bridge(bridge) => bridge.filter(request),
+        }
+    }
+
+    /// Opens a voice in a slot.
+    pub fn open(&mut self, slot: usize, configuration: Configuration) -> u64 {
+        match self {
+            #[cfg(feature = "linked")]
+            Ours::Linked(voices) => voices.open(slot, configuration),
+            Ours::Bridge(bridge) => bridge.open_voice(slot, configuration),
+        }
+    }
+
+    pub fn call(&mut self, slot: usize, call: &voice::Call) -> voice::Outcome {
+        match self {
+            #[cfg(feature = "linked")]
+            Ours::Linked(voices) => voices.call(slot, call),
+            Ours::Bridge(bridge) => bridge.call_voice(slot, call),
+        }
+    }
+
+    pub fn voice(&mut self, slot: usize) -> Voice {
+        match self {
+            #[cfg(feature = "linked")]
+            Ours::Linked(voices) => voices.read(slot),
+            Ours::Bridge(bridge) => bridge.read_voice(slot),
+        }
+    }
+
+    pub fn set_voice(&mut self, slot: usize, voice: &Voice) {
+        match self {
+            #[cfg(feature = "linked")]
+            Ours::Linked(voices) => voices.write(slot, voice),
+            Ours::Bridge(bridge) => bridge.write_voice(slot, voice),
         }
     }
 }

@@ -23,6 +23,18 @@ impl Rusts {
         }
     }
 
+    /// Of a vocoder.
+    pub fn of(excitation: Excitation, end_pitch: f64) -> Self {
+        Self {
+            excitation,
+            end_pitch,
+        }
+    }
+
+    pub fn into_excitation(self) -> Excitation {
+        self.excitation
+    }
+
     /// In a state, with tap 0 at place `index` of the ring.
     pub fn at(state: &State, index: usize) -> Self {
         let mut excitation = Excitation::new(state.line.len());

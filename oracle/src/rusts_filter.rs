@@ -36,7 +36,7 @@ pub mod mlsa {
     }
 }
 
-mod mglsa {
+pub mod mglsa {
     include!("../routed/src/vocoder/mglsa.rs");
 
     impl MelGeneralizedLogSpectrumApproximation {
@@ -53,9 +53,7 @@ mod mglsa {
     }
 }
 
-// The filters make nothing of the stage and of gamma.
-#[allow(dead_code)]
-mod stage {
+pub mod stage {
     include!("../routed/src/vocoder/stage.rs");
 }
 
@@ -70,6 +68,15 @@ impl Rusts {
         Self {
             stage: Stage::new(filter.stage() as usize, nmcp),
         }
+    }
+
+    /// Of a vocoder.
+    pub fn of(stage: Stage) -> Self {
+        Self { stage }
+    }
+
+    pub fn into_stage(self) -> Stage {
+        self.stage
     }
 
     /// With the coefficients and taps that a call is given.
@@ -97,7 +104,15 @@ impl Rusts {
         for x in &mut arrays.samples {
             *x = self.sample(*x, request);
         }
-        (arrays.coefficients, arrays.taps) = match &self.stage {
+        (arrays.coefficients, arrays.taps) = self.coefficients_and_taps();
+        Outcome {
+            number: DONE,
+            arrays,
+        }
+    }
+
+    pub fn coefficients_and_taps(&self) -> (Vec<f64>, Vec<Vec<f64>>) {
+        match &self.stage {
             Stage::Zero {
                 coefficients,
                 filter,
@@ -107,10 +122,6 @@ impl Rusts {
                 filter,
                 ..
             } => (coefficients.to_vec(), filter.taps()),
-        };
-        Outcome {
-            number: DONE,
-            arrays,
         }
     }
 

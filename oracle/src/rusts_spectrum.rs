@@ -13,7 +13,7 @@ mod buffer {
     include!("../routed/src/vocoder/buffer.rs");
 }
 
-mod generalized {
+pub mod generalized {
     include!("../routed/src/vocoder/generalized.rs");
 }
 
@@ -21,7 +21,7 @@ pub mod coefficients {
     include!("../routed/src/vocoder/coefficients.rs");
 }
 
-mod cepstrum {
+pub mod cepstrum {
     include!("../routed/src/vocoder/cepstrum.rs");
 
     /// So many entries by `gc2gc`, which is private, from gamma to gamma.
@@ -35,7 +35,7 @@ mod cepstrum {
     }
 }
 
-mod lsp {
+pub mod lsp {
     include!("../routed/src/vocoder/lsp.rs");
 
     /// `lsp2lpc`, which is private.
