@@ -12,9 +12,11 @@ use std::hint::black_box;
 /// The passes of a row: the whole, the same by two calls, and the three parts.
 const WAYS: [&str; 5] = ["whole", "give+draw", "preparing", "excitation", "filter"];
 
-/// Measures and prints case by case. False where the parts of one do not make its samples.
+/// Measures and prints case by case. False where the samples of one, made by its parts, have another sum of sizes.
 pub fn print(cases: &[Case]) -> bool {
-    println!("\nns a sample of our whole frames and of their parts; rest: the whole without the three");
+    println!(
+        "\nns a sample of our whole frames and of their parts; rest: the whole without the three"
+    );
     print!("{:26} {:7}", "nmcp/nlpf/stage", "by");
     WAYS.iter().for_each(|way| print!(" {way:>10}"));
     println!(" {:>10}", "rest");
@@ -32,7 +34,10 @@ fn print_case(case: &Case) -> bool {
         print_row(&case.set, "best", times.iter().map(|way| way.best));
         print_row("", "median", times.iter().map(|way| way.median));
     } else {
-        eprintln!("bench: {}: the parts do not make the whole frames' samples", case.set);
+        eprintln!(
+            "bench: {}: the parts make another sum than the whole frames, so times say nothing",
+            case.set
+        );
     }
     agree
 }

@@ -106,7 +106,8 @@ fn print_table(table: &Table) -> bool {
     table.cases.iter().all(|case| {
         let agree = case.ways_agree();
         if agree {
-            print_rows(case, &measure(&case.passes(), case.count as f64 * table.unit));
+            let unit = case.count as f64 * table.unit;
+            print_rows(case, &measure(&case.passes(), unit));
         } else {
             eprintln!(
                 "bench: {} over {}: the sums of the results differ too much, so times say nothing",

@@ -8,8 +8,10 @@ use crate::shim::{Configuration, Voice};
 use crate::variants::{Variant, Ways, floats};
 use crate::vocoder::Vocoder;
 
-/// The sums of sizes may be this many floats a sample apart, 2^-20 of a sum in all, as the preparing may be.
-const STEPS: u64 = 1 << 20;
+/// How many floats a sample the sums of sizes may be apart: 2^-30 of a sum at stage 0, where exp, ln and fused steps
+/// tell in last places, and 2^-20 of it at another, as the recursion of the pairs magnifies what cos and the powers are away.
+const STEPS: u64 = 1 << 10;
+const PAIRS_STEPS: u64 = 1 << 20;
 
 const WAYS: Ways = [
     Variant {
@@ -50,7 +52,7 @@ pub fn all(random: &mut Generator) -> Vec<Case> {
             right: setting.words(),
             count: FRAME * FRAMES,
             variants: WAYS,
-            steps: STEPS,
+            steps: if stage == 0 { STEPS } else { PAIRS_STEPS },
         }
     };
     SETTINGS.into_iter().map(case).collect()
