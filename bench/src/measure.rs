@@ -36,8 +36,7 @@ fn calibrate(pass: &Pass) -> u32 {
     count
 }
 
-/// Every round times each pass once, one after the other, so that all meet the same machine. `unit` is how many ns
-/// of a pass count as one.
+/// Every round times each pass once, so that all meet the same machine. `unit` is how many ns of a pass count as one.
 pub fn measure(passes: &[Pass], unit: f64) -> Vec<Times> {
     let counts: Vec<u32> = passes.iter().map(calibrate).collect();
     let mut rounds = vec![Vec::new(); passes.len()];

@@ -8,9 +8,9 @@ use crate::shim::{Configuration, Voice};
 use crate::variants::{Variant, Ways, floats};
 use crate::vocoder::Vocoder;
 
-/// How many floats a sample the sums of sizes may be apart: 2^-30 of a sum at stage 0, where exp, ln and fused steps
-/// tell in last places, and 2^-20 of it at another, as the recursion of the pairs magnifies what cos and the powers are away.
+/// How many floats a sample the sums of sizes may be apart at stage 0: 2^-30 of a sum, for exp, ln and fused steps.
 const STEPS: u64 = 1 << 10;
+/// At another stage 2^-20 of a sum: the recursion of the pairs magnifies what cos and the powers are away.
 const PAIRS_STEPS: u64 = 1 << 20;
 
 const WAYS: Ways = [
