@@ -1,8 +1,23 @@
-// Tells the linker where the archives are; the files of src/ that call them name them.
+// Tells the linker where the archives and the shim are; the files of src/ that call them name them.
+const ARCHIVES: [&str; 6] = [
+    "exports",
+    "export_mel",
+    "export_pairs",
+    "export_preparing",
+    "export_filters",
+    "export_voice",
+];
+
 fn main() {
-    println!("cargo:rerun-if-env-changed=EXPORTS_DIR");
-    let folder = std::env::var("EXPORTS_DIR").expect("EXPORTS_DIR is the folder of the archives");
-    for name in ["exports", "export_mel", "export_pairs", "export_preparing", "export_filters"] {
+    search("EXPORTS_DIR", &ARCHIVES);
+    search("SHIM_DIR", &["shim"]);
+}
+
+/// Has the linker search the folder that `variable` names, where `names` are.
+fn search(variable: &str, names: &[&str]) {
+    println!("cargo:rerun-if-env-changed={variable}");
+    let folder = std::env::var(variable).unwrap_or_else(|_| panic!("{variable} names no folder"));
+    for name in names {
         println!("cargo:rerun-if-changed={folder}/lib{name}.a");
     }
     println!("cargo:rustc-link-search=native={folder}");

@@ -20,18 +20,34 @@ TEXT
     chmod +x "$view/on/$machine/toolchain/bin/clang"
 }
 
-# Proves the crate $2 and writes its archive for this processor to folder $1. Only the module's target is
-# changed. Sums and products stay apart (no contraction), as in the x86-64 code.
+# The folder of the kit, and its clang for this processor.
+kit_folder() {
+    dirname "$(dirname "$(readlink -f "$(command -v rt)")")"
+}
+kit_clang() {
+    printf '%s/on/%s/toolchain/bin/clang\n' "$(kit_folder)" "$(uname -m)"
+}
+
+# Compiles the module $1.ll, made for x86-64, to $1.o for this processor. Only the module's target is changed.
+# Sums and products stay apart (no contraction), as in the x86-64 code.
+native_object() {
+    sed -i -E -e '/^target /d' -e 's/"(target-cpu|target-features|tune-cpu)"="[^"]*"//g' "$1.ll"
+    "$(kit_clang)" --target="$(uname -m)-unknown-linux-gnu" -ffp-contract=off -O3 -fPIC -Wno-override-module -c -x ir "$1.ll" -o "$1.o"
+}
+
+# Writes the archive lib$2.a of the one object $1/$2.o to folder $1.
+archive_object() {
+    rm -f "$1/lib$2.a"
+    ar rcs "$1/lib$2.a" "$1/$2.o"
+}
+
+# Proves the crate $2 and writes its archive for this processor to folder $1, with the module beside it.
 native_archive() {
-    local out=$1 name=$2 kit clang kept=$work/module
-    kit=$(dirname "$(dirname "$(readlink -f "$(command -v rt)")")")
-    clang=$kit/on/$(uname -m)/toolchain/bin/clang
-    lay_out_kit "$kit" "$work/kit" "$kept"
+    local out=$1 name=$2 kept=$work/module
+    lay_out_kit "$(kit_folder)" "$work/kit" "$kept"
     (cd "$root" && RATTLE_HOME=$work/kit rt staticlib "$name") >"$work/staticlib.log" 2>&1 || fail "$name is not proved: see target/bench/staticlib.log"
-    "$clang" --target=x86_64-unknown-linux-gnu -S -emit-llvm -x ir "$kept/module.bc" -o "$kept/module.ll"
-    sed -i -e '/^target /d' -e 's/"target-cpu"="[^"]*"//' "$kept/module.ll"
     mkdir -p "$out"
-    "$clang" --target="$(uname -m)-unknown-linux-gnu" -ffp-contract=off -O3 -fPIC -Wno-override-module -c -x ir "$kept/module.ll" -o "$kept/module.o"
-    rm -f "$out/lib$name.a"
-    ar rcs "$out/lib$name.a" "$kept/module.o"
+    "$(kit_clang)" --target=x86_64-unknown-linux-gnu -S -emit-llvm -x ir "$kept/module.bc" -o "$out/$name.ll"
+    native_object "$out/$name"
+    archive_object "$out" "$name"
 }

@@ -3,8 +3,10 @@
 use crate::excitations;
 use crate::generator::Generator;
 use crate::inputs::{self, COUNT};
-use crate::variants::{self, Ways};
+use crate::measure::Pass;
+use crate::variants::{self, Variant, Ways};
 use std::f64::consts::PI;
+use std::hint::black_box;
 
 /// A function over a set of inputs, by three ways.
 pub struct Case {
@@ -17,6 +19,25 @@ pub struct Case {
     pub variants: Ways,
     /// How many floats an answer of ours may be away from Rust's.
     pub steps: u64,
+}
+
+impl Case {
+    /// The passes by each way. The inputs are hidden each time, so that no pass is left out.
+    pub fn passes(&self) -> Vec<Pass<'_>> {
+        let pass = |way: Variant| -> Pass {
+            Box::new(move || (way.pass)(black_box(&self.left), black_box(&self.right)))
+        };
+        self.variants.into_iter().map(pass).collect()
+    }
+
+    /// Whether the sums of the results' bits are as near to one another as the results may be.
+    pub fn ways_agree(&self) -> bool {
+        let sums: Vec<u64> = self.passes().iter().map(|pass| pass()).collect();
+        sums.iter().all(|sum| {
+            let away = sum.wrapping_sub(sums[0]) as i64;
+            away.unsigned_abs() <= self.count as u64 * self.steps
+        })
+    }
 }
 
 /// The steps that the bands of document 01 allow: an error of 2^-48 is 2^5 steps, one of 2^-44 is 2^9,
@@ -40,10 +61,7 @@ pub fn all(random: &mut Generator) -> Vec<Case> {
         variants: variants::WRAPPING_MUL,
         steps: EXACT,
     });
-    // Elsewhere structs go by value in another way than in our library's module.
-    if cfg!(target_arch = "x86_64") {
-        cases.extend(excitations::all(random));
-    }
+    cases.extend(excitations::all(random));
     cases
 }
 

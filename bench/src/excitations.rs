@@ -2,14 +2,10 @@
 
 use crate::cases::Case;
 use crate::excitation::Excitation;
-use crate::excitation_calls::{kipawnore_end, kipawnore_start, stretch};
-use crate::excitation_structs::{Pulse, Random};
+use crate::frames::{FRAME, FRAMES};
 use crate::generator::Generator;
+use crate::shim;
 use crate::variants::{Variant, Ways, floats, with_bits};
-
-/// The samples of a frame, and the frames of a pass, each pass from a fresh voice on.
-const FRAME: usize = 240;
-const FRAMES: usize = 17;
 
 /// The period of a voiced frame in samples; an unvoiced one has 0.
 const PERIOD: f64 = 200.0;
@@ -53,14 +49,11 @@ pub fn all(random: &mut Generator) -> Vec<Case> {
 
 fn ours(lpf: &[u64], period: &[u64]) -> u64 {
     let (lpf, period) = (floats(lpf), f64::from_bits(period[0]));
-    let (mut pulse, mut random) = (Pulse::FRESH, Random::FRESH);
-    let mut line = vec![0.0; lpf.len()];
+    let mut excitation = shim::Excitation::new(lpf.len());
     let mut samples = [0.0; FRAME];
     (0..FRAMES).fold(0, |sum, _| {
-        pulse = kipawnore_start(pulse, period != 0.0, period, FRAME as u64);
-        let after = stretch(pulse, random, &mut line, &lpf, &mut samples);
-        (pulse, random) = (kipawnore_end(after.pulse), after.random);
-        with_bits(sum, &samples[..after.made])
+        excitation.frame(period, &lpf, &mut samples);
+        with_bits(sum, &samples)
     })
 }
 

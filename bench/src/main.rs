@@ -1,25 +1,35 @@
 //! The benchmark of bench/run: our functions, called through the static library, beside Rust's.
 
+mod breakdown;
 mod cases;
+// The pinned file has constants of other parts too.
+#[allow(dead_code)]
+mod constants;
 #[path = "vocoder/excitation.rs"]
 mod excitation;
-mod excitation_calls;
 mod excitation_structs;
 mod excitations;
 mod filter_calls;
 mod filters;
+mod frames;
 mod generator;
 mod inputs;
 mod measure;
+mod our_filter;
+mod parts;
 mod preparations;
+mod preparing_calls;
+mod shim;
 mod spectra;
 mod stretches;
 mod variants;
+mod vocoder;
+mod whole_frames;
 
 use cases::Case;
 use generator::Generator;
 use inputs::COUNT;
-use measure::{ROUNDS, STRETCH, Times, measure, ways_agree};
+use measure::{ROUNDS, STRETCH, Times, measure};
 use std::process::ExitCode;
 
 const SEED: u64 = 1;
@@ -41,9 +51,7 @@ struct Table {
 fn main() -> ExitCode {
     let least = STRETCH.as_millis();
     println!("{ROUNDS} interleaved rounds, each way at least {least} ms a round");
-    println!(
-        "ours: called through the static libraries"
-    );
+    println!("ours: called through the static libraries");
     println!("Rust, called: through an #[inline(never)] function; Rust, inlined: the plain loop");
     println!("noise: median/best; ratios: ours/Rust, by best and by median");
     if FUSED {
@@ -51,11 +59,12 @@ fn main() -> ExitCode {
             "for this processor the pinned filter of stage 0 is built with fused multiply-add, ours is not"
         );
     }
-    let done = tables(&mut Generator::new(SEED)).iter().all(print_table);
+    let tables = tables(&mut Generator::new(SEED));
+    let done = tables.iter().all(print_table) && breakdown::print(&tables[3].cases);
     ExitCode::from(u8::from(!done))
 }
 
-fn tables(random: &mut Generator) -> [Table; 3] {
+fn tables(random: &mut Generator) -> [Table; 4] {
     [
         Table {
             title: format!("ns a call, over {COUNT} independent inputs; excitation: ns a sample"),
@@ -71,6 +80,11 @@ fn tables(random: &mut Generator) -> [Table; 3] {
             title: "ns a sample, from the excitation on".to_string(),
             unit: 1.0,
             cases: stretches::all(random),
+        },
+        Table {
+            title: "ns a sample, whole frames with nmcp/nlpf/stage".to_string(),
+            unit: 1.0,
+            cases: whole_frames::all(random),
         },
     ]
 }
@@ -90,9 +104,10 @@ fn print_table(table: &Table) -> bool {
         "ratio median"
     );
     table.cases.iter().all(|case| {
-        let agree = ways_agree(case);
+        let agree = case.ways_agree();
         if agree {
-            print_rows(case, &measure(case, table.unit));
+            let unit = case.count as f64 * table.unit;
+            print_rows(case, &measure(&case.passes(), unit));
         } else {
             eprintln!(
                 "bench: {} over {}: the sums of the results differ too much, so times say nothing",

@@ -2,6 +2,7 @@
 
 use crate::cases::Case;
 use crate::generator::Generator;
+use crate::preparing_calls::Preparing;
 use crate::spectra::{ALPHA, prepare};
 use crate::variants::{Variant, Ways, floats, with_bits};
 use std::f64::consts::PI;
@@ -28,43 +29,18 @@ const WAYS: Ways = [
     },
 ];
 
-#[link(name = "export_preparing", kind = "static")]
-unsafe extern "C" {
-    fn kipawnore_prepare_mcp(
-        spectrum: *const f64,
-        nspectrum: usize,
-        alpha: f64,
-        beta: f64,
-        first: bool,
-        start: *mut f64,
-        nstart: usize,
-        targets: *mut f64,
-        ntargets: usize,
-    ) -> u64;
-    fn kipawnore_prepare_lsp(
-        spectrum: *const f64,
-        nspectrum: usize,
-        alpha: f64,
-        beta: f64,
-        log_gain: bool,
-        s: u64,
-        first: bool,
-        start: *mut f64,
-        nstart: usize,
-        targets: *mut f64,
-        ntargets: usize,
-    ) -> u64;
-}
+/// A new spectrum of so many entries.
+type Spectrum = fn(usize, &mut Generator) -> Vec<u64>;
 
 /// Cepstra at stage 0 and line spectral pairs at stage 2, without postfilter and with it.
 pub fn all(random: &mut Generator) -> Vec<Case> {
     let mut cases = Vec::new();
-    for (stage, spectrum) in [(0, cepstrum as fn(&mut Generator) -> Vec<u64>), (2, pairs)] {
+    for (stage, spectrum) in [(0, cepstrum as Spectrum), (2, pairs)] {
         for beta in [0.0, 0.3_f64] {
             cases.push(Case {
                 function: "prepare",
                 set: format!("nmcp {NMCP}, stage {stage}, beta {beta}"),
-                left: (0..FRAMES).flat_map(|_| spectrum(random)).collect(),
+                left: (0..FRAMES).flat_map(|_| spectrum(NMCP, random)).collect(),
                 right: vec![beta.to_bits(), stage],
                 count: FRAMES,
                 variants: WAYS,
@@ -76,16 +52,16 @@ pub fn all(random: &mut Generator) -> Vec<Case> {
 }
 
 /// A cepstrum that falls off.
-fn cepstrum(random: &mut Generator) -> Vec<u64> {
-    (0..NMCP)
+pub fn cepstrum(nmcp: usize, random: &mut Generator) -> Vec<u64> {
+    (0..nmcp)
         .map(|place| (4.0 * (random.unit() - 0.5) / (1 + place) as f64).to_bits())
         .collect()
 }
 
 /// Frequencies that rise below PI: the pinned Rust takes the gain for the first of them.
-pub fn pairs(random: &mut Generator) -> Vec<u64> {
-    let step = PI / (NMCP + 1) as f64;
-    (1..=NMCP)
+pub fn pairs(nmcp: usize, random: &mut Generator) -> Vec<u64> {
+    let step = PI / (nmcp + 1) as f64;
+    (1..=nmcp)
         .map(|place| (step * (place as f64 + 0.6 * (random.unit() - 0.5))).to_bits())
         .collect()
 }
@@ -101,16 +77,12 @@ fn over(spectra: &[u64], settings: &[u64], prepare: impl Fn(&[f64], f64, u64, &m
 }
 
 fn ours(spectrum: &[f64], beta: f64, stage: u64, targets: &mut [f64]) {
-    let (from, n) = (spectrum.as_ptr(), spectrum.len());
-    let mut start = [0.0; NMCP];
-    let (start, to) = (start.as_mut_ptr(), targets.as_mut_ptr());
-    // SAFETY: each of the three arrays has NMCP entries.
-    unsafe {
-        match stage {
-            0 => kipawnore_prepare_mcp(from, n, ALPHA, beta, false, start, n, to, n),
-            _ => kipawnore_prepare_lsp(from, n, ALPHA, beta, false, stage, false, start, n, to, n),
-        };
-    }
+    let preparing = Preparing {
+        stage,
+        alpha: ALPHA,
+        beta,
+    };
+    preparing.prepare(spectrum, false, &mut [0.0; NMCP], targets);
 }
 
 #[inline(never)]

@@ -1,18 +1,14 @@
 //! The filters, from a frame's excitation to its samples: ours by one call a frame.
 
 use crate::cases::{Case, EXACT};
-use crate::filter_calls::{Stretch, mglsa, mlsa};
+use crate::filter_calls::Stretch;
 use crate::filters::{Stage, filter};
+use crate::frames::{FRAME, FRAMES, VOLUME};
 use crate::generator::Generator;
+use crate::our_filter::OurFilter;
 use crate::preparations::{NMCP, pairs};
 use crate::spectra::{ALPHA, prepare};
 use crate::variants::{Variant, Ways, floats, with_bits};
-
-/// The samples of a frame, and the frames of a pass, each pass from a fresh filter on.
-const FRAME: usize = 240;
-const FRAMES: usize = 17;
-
-const VOLUME: f64 = 1.0;
 
 /// At stage 0 the gain is as far from the Rust's as exp is, and a fused step half a float; samples that cancel are
 /// further. At another stage there is neither.
@@ -76,7 +72,7 @@ fn coefficients(nmcp: usize, stage: u64, random: &mut Generator) -> Vec<f64> {
         return falling.collect();
     }
     let mut coefficients = vec![0.0; nmcp];
-    prepare(&floats(&pairs(random)), 0.0, stage, &mut coefficients);
+    prepare(&floats(&pairs(NMCP, random)), 0.0, stage, &mut coefficients);
     coefficients
 }
 
@@ -99,16 +95,8 @@ fn over(frames: &[u64], settings: &[u64], mut filter: impl FnMut(Stretch)) -> u6
 }
 
 fn ours(frames: &[u64], settings: &[u64]) -> u64 {
-    let (nmcp, stage) = (settings[0] as usize, settings[1]);
-    let [mut d11, mut d12, mut d22] = [[0.0; 6]; 3];
-    let rows = if stage == 0 { 6 } else { stage as usize };
-    let mut d = vec![0.0; rows * nmcp];
-    over(frames, settings, |stretch| {
-        match stage {
-            0 => mlsa(stretch, [&mut d11, &mut d12, &mut d22, &mut d]),
-            _ => mglsa(stretch, stage, &mut d),
-        };
-    })
+    let mut filter = OurFilter::new(settings[1], settings[0] as usize);
+    over(frames, settings, |stretch| filter.turn(stretch))
 }
 
 fn rusts(frames: &[u64], settings: &[u64], filter: impl Fn(&mut Stage, Stretch)) -> u64 {

@@ -3,8 +3,8 @@
 use std::hint::black_box;
 
 /// One way: its name, and a pass over the inputs. The second words are the other factors of a
-/// product, the s of a power, the excitation's period, beta and stage, or nmcp, stage and alpha; the other
-/// functions read none.
+/// product, the s of a power, the excitation's period, beta and stage, nmcp, stage and alpha, or a whole
+/// setting; the other functions read none.
 #[derive(Clone, Copy)]
 pub struct Variant {
     pub name: &'static str,
@@ -56,7 +56,7 @@ pub const WRAPPING_MUL: Ways = ways!(products:
 #[link(name = "exports", kind = "static")]
 unsafe extern "C" {
     safe fn kipawnore_sqrt(x: f64) -> f64;
-    safe fn kipawnore_exp(x: f64) -> f64;
+    pub safe fn kipawnore_exp(x: f64) -> f64;
     safe fn kipawnore_ln(x: f64) -> f64;
     safe fn kipawnore_cos(x: f64) -> f64;
     safe fn kipawnore_inverse_power(a: f64, s: u64) -> f64;
