@@ -45,17 +45,17 @@ put-part start n xs out m e h =
     (append-assoc xs (drop m (take n (drop start out))) (drop n (drop start out))
     ∙ ap (λ (l : List Float). xs ++ l) (rest-of (drop start out) m n h ∙ drop-drop m start out ∙ ap (λ (j : ℕ). drop j out) on)))
 
+-- nothing made, nothing written
+pub placed-none : (start : ℕ) (out : List Float) → placed start [] out ≡ out
+placed-none start out = let all : start + 0 ≡ start = omega arith in rw all (take-append-drop start out)
+
 module _ (v : Voice) (out : List Float) (start : ℕ) where
   abbrev kept : Bool
   kept = acceptable (v .configuration) (v .meter) (v .left) (v .first) (v .random .used)
 
-  -- nothing made, nothing written
-  placed-none : placed start [] out ≡ out
-  placed-none = let all : start + 0 ≡ start = omega arith in rw all (take-append-drop start out)
-
   -- an answer without samples
   without : (n : ℕ) → drawn v out start ≡ answer n [] v → Draws v out start (record { number = n; made = 0; voice = v }) out
-  without n e = record { number = rw e refl; made = rw e refl; voice = rw e refl; buffer = rw e (sym placed-none) }
+  without n e = record { number = rw e refl; made = rw e refl; voice = rw e refl; buffer = rw e (sym (placed-none start out)) }
 
   pub draws-idle : kept ≡ false → Draws v out start (record { number = 2; made = 0; voice = v }) out
   unfolding drew idle
