@@ -6,6 +6,7 @@ ghost use Rattle.mglsa.specs.Mglsa.{passed, warpAt, warped, pushed, dffO
 
 // The filter's taps, at most eight rows, one after the other. With fewer than 64 coefficients the rows are shorter, and the rest is
 // not used.
+#[repr(C)]
 pub struct MelGeneralizedLogSpectrumApproximation {
     pub d: [f64; 512],
 }

@@ -6,6 +6,7 @@ ghost use Rattle.mlsa.specs.Mlsa.{part, weighed, firstRow, secondRow, pa
 
 // The filter's taps: those of the first part with the answers of its rows, six rows of taps of the second part, one after the
 // other, with the answers of its rows. With fewer than 64 coefficients the rows are shorter, and the rest is not used.
+#[repr(C)]
 pub struct MelLogSpectrumApproximation {
     pub d11: [f64; 6],
     pub d12: [f64; 6],

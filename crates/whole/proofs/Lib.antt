@@ -1,1 +1,3 @@
 pub mod WholeLaws
+pub mod Agree
+pub mod Demand2

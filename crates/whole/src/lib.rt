@@ -17,7 +17,13 @@ fn refusal(voice: Voice, len: usize, start: usize) -> u64
 {
     let configuration = voice.configuration;
     let random = voice.random;
-    if !usable(configuration, voice.meter, voice.left, voice.first, random.used) {
+    if !usable(
+        configuration,
+        voice.meter,
+        voice.left,
+        voice.first,
+        random.used,
+    ) {
         return VOICE_IDLE;
     }
     if start > len {
