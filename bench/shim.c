@@ -35,26 +35,34 @@ typedef struct { Word number, made; Voice voice; } Drawn;
 
 _Static_assert(sizeof(Configuration) == 96 && sizeof(Voice) == 10552, "the sizes that src/shim.rs has too");
 
-Pulse kipawnore_start(Pulse pulse, _Bool voiced, double period, Word fperiod);
-Pulse kipawnore_end(Pulse pulse);
-Stretch kipawnore_stretch(Pulse pulse, Random random, double *line, Word nline, const double *lpf, Word nlpf, double *out, Word nout);
+// A struct that is given back is written where the first argument points, which the answer then is: on x86-64 that is how a struct comes back by
+// value, and it is how our modules say it.
+Pulse *kipawnore_start(Pulse *after, Pulse pulse, _Bool voiced, double period, Word fperiod);
+Pulse *kipawnore_end(Pulse *after, Pulse pulse);
+Stretch *kipawnore_stretch(Stretch *after, Pulse pulse, Random random, double *line, Word nline, const double *lpf, Word nlpf, double *out,
+                           Word nout);
 
-Answered kipawnore_open(Configuration configuration);
-Answered kipawnore_give(Voice voice, double lf0, const double *spectrum, Word nspectrum, const double *lpf, Word nlpf);
-Drawn kipawnore_draw(Voice voice, double *out, Word nout, Word start);
-Drawn kipawnore_whole_frame(Voice voice, double lf0, const double *spectrum, Word nspectrum, const double *lpf, Word nlpf, double *out,
-                            Word nout, Word start);
+Answered *kipawnore_open(Answered *after, Configuration configuration);
+Answered *kipawnore_give(Answered *after, Voice voice, double lf0, const double *spectrum, Word nspectrum, const double *lpf, Word nlpf);
+Drawn *kipawnore_draw(Drawn *after, Voice voice, double *out, Word nout, Word start);
+Drawn *kipawnore_whole_frame(Drawn *after, Voice voice, double lf0, const double *spectrum, Word nspectrum, const double *lpf, Word nlpf,
+                             double *out, Word nout, Word start);
 
 void shim_start(Pulse *pulse, _Bool voiced, double period, Word fperiod) {
-    *pulse = kipawnore_start(*pulse, voiced, period, fperiod);
+    Pulse after;
+    kipawnore_start(&after, *pulse, voiced, period, fperiod);
+    *pulse = after;
 }
 
 void shim_end(Pulse *pulse) {
-    *pulse = kipawnore_end(*pulse);
+    Pulse after;
+    kipawnore_end(&after, *pulse);
+    *pulse = after;
 }
 
 Word shim_stretch(Pulse *pulse, Random *random, double *line, Word nline, const double *lpf, Word nlpf, double *out, Word nout) {
-    Stretch after = kipawnore_stretch(*pulse, *random, line, nline, lpf, nlpf, out, nout);
+    Stretch after;
+    kipawnore_stretch(&after, *pulse, *random, line, nline, lpf, nlpf, out, nout);
     *pulse = after.pulse;
     *random = after.random;
     return after.made;
@@ -62,19 +70,22 @@ Word shim_stretch(Pulse *pulse, Random *random, double *line, Word nline, const 
 
 // Those of a voice give the number of document 01.
 Word shim_open(Voice *voice, const Configuration *configuration) {
-    Answered after = kipawnore_open(*configuration);
+    Answered after;
+    kipawnore_open(&after, *configuration);
     *voice = after.voice;
     return after.number;
 }
 
 Word shim_give(Voice *voice, double lf0, const double *spectrum, Word nspectrum, const double *lpf, Word nlpf) {
-    Answered after = kipawnore_give(*voice, lf0, spectrum, nspectrum, lpf, nlpf);
+    Answered after;
+    kipawnore_give(&after, *voice, lf0, spectrum, nspectrum, lpf, nlpf);
     *voice = after.voice;
     return after.number;
 }
 
 Word shim_draw(Voice *voice, double *out, Word nout, Word start, Word *made) {
-    Drawn after = kipawnore_draw(*voice, out, nout, start);
+    Drawn after;
+    kipawnore_draw(&after, *voice, out, nout, start);
     *voice = after.voice;
     *made = after.made;
     return after.number;
@@ -82,7 +93,8 @@ Word shim_draw(Voice *voice, double *out, Word nout, Word start, Word *made) {
 
 Word shim_whole_frame(Voice *voice, double lf0, const double *spectrum, Word nspectrum, const double *lpf, Word nlpf, double *out,
                       Word nout, Word start, Word *made) {
-    Drawn after = kipawnore_whole_frame(*voice, lf0, spectrum, nspectrum, lpf, nlpf, out, nout, start);
+    Drawn after;
+    kipawnore_whole_frame(&after, *voice, lf0, spectrum, nspectrum, lpf, nlpf, out, nout, start);
     *voice = after.voice;
     *made = after.made;
     return after.number;

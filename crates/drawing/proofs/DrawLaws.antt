@@ -9,7 +9,6 @@ use lib.Dec.{eqb, ltb}
 use lib.ListN.{length, take, drop, take-append-drop, length-drop}
 use lib.Seq.{drop-drop, length-take-le}
 use lib.Ieee.{Float}
-use borrow.Author.Tests.{lt-ltb, le-ltb, eqb-true}
 use Rattle.number.specs.Lists.{over, row, putRow}
 use Rattle.history.specs.Steps.{Run, running, steps}
 use Rattle.history.specs.Machine.{Answer, answer, sampled, drew}
@@ -19,7 +18,7 @@ use Rattle.voice.specs.declared.Voice.{Voice}
 use Rattle.voice.specs.Voice.{idle, acceptable}
 use Rattle.drawing.specs.declared.Drawn.{Drawn}
 use Rattle.drawing.specs.Step.{step}
-use Rattle.drawing.specs.Draw.{voiceOf, roomFrom, placed, drawn, Draws}
+use Rattle.drawing.specs.Draw.{voiceOf, roomFrom, placed, numberFor, drawn, Draws}
 
 -- what was left of a part that was filled in front, and what follows it, is what follows the filled
 rest-of : (x : List Float) (m n : ℕ) → m ≤ n → drop m (take n x) ++ drop n x ≡ drop m x
@@ -84,13 +83,7 @@ module _ (v : Voice) (out : List Float) (start : ℕ) where
       buffer-is : putRow start (start + n) part out ≡ placed start (steps (step tries) n v .made) out
       buffer-is = rw is-part (put-part start n (steps (step tries) n v .made) out made is-made few)
 
-      draws : (number : ℕ) → number ≡ sampled (steps (step tries) n v) .number → Draws v out start (record { number = number; made = made; voice = last }) (putRow start (start + n) part out)
-      draws number h =
+      pub draws-made : (number : ℕ) → number ≡ numberFor made n → Draws v out start (record { number = number; made = made; voice = last }) (putRow start (start + n) part out)
+      draws-made number h =
           let is = drawn-is n (sym is-n) in
-          record { number = rw is h; made = rw is is-made; voice = rw is is-last; buffer = rw is buffer-is }
-
-      pub draws-dry : made < n → Draws v out start (record { number = 11; made = made; voice = last }) (putRow start (start + n) part out)
-      draws-dry h = draws 11 (rw (steps-dry (step tries) n v, ← is-made, lt-ltb made n h) refl)
-
-      pub draws-done : n ≤ made → Draws v out start (record { number = 0; made = made; voice = last }) (putRow start (start + n) part out)
-      draws-done h = draws 0 (rw (steps-dry (step tries) n v, ← is-made, le-ltb made n h) refl)
+          record { number = rw (is, steps-dry (step tries) n v, ← is-made) h; made = rw is is-made; voice = rw is is-last; buffer = rw is buffer-is }

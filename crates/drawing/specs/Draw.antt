@@ -1,9 +1,12 @@
 -- The voice as a machine, and draw. Assumes nothing.
-use mathlib.Core.Path.{_≡_, refl}
-use mathlib.Core.List.{List, [], _∷_, _++_}
+use mathlib.Core.Path.{_≡_}
+use mathlib.Core.Bool.{cond}
+use mathlib.Core.List.{List, _++_}
 use Prim.Native.Nat.{ℕ, _+_, _-_}
+use lib.Dec.{ltb}
 use lib.ListN.{length, take, drop}
 use lib.Ieee.{Float}
+use Rattle.history.specs.Numbers.{done, noiseDry}
 use Rattle.history.specs.Machine.{Machine, Answer, drew}
 use Rattle.noise.specs.Draw.{tries}
 use Rattle.voice.specs.declared.Voice.{Voice}
@@ -34,6 +37,10 @@ roomFrom start out = length out - start
 -- the samples in their place, and everything outside as it was
 abbrev pub placed : ℕ → List Float → List Float → List Float
 placed start made out = take start out ++ (made ++ drop (start + length made) out)
+
+-- the number for so many samples of those asked for: where some are missing, the noise is dry
+abbrev pub numberFor : (made count : ℕ) → ℕ
+numberFor made count = cond (ltb made count) noiseDry done
 
 -- what draw answers by the definition
 abbrev pub drawn : Voice → List Float → ℕ → Answer Voice Float

@@ -38,15 +38,38 @@ abbrev 5f : Float
 
 -- stage 1, nmcp 2, no taps, alpha 0, fperiod 3
 abbrev small : Configuration
-small = record
-  { nmcp = 2; nlpf = 0; stage = 1; log = false; rate = 16000; alpha = 0f; beta = 0f; volume = 1f
-  ; fperiod = 3; nodata = usual .nodata; low = usual .low; high = usual .high }
+small = record {
+  nmcp = 2;
+  nlpf = 0;
+  stage = 1;
+  log = false;
+  rate = 16000;
+  alpha = 0f;
+  beta = 0f;
+  volume = 1f;
+  fperiod = 3;
+  nodata = usual .nodata;
+  low = usual .low;
+  high = usual .high;
+}
 
 -- in the middle of a frame, with so many samples drawn and left, a pulse train, a noise, two coefficients and two taps of the filter
 abbrev midway : (meter left : ℕ) → Pulse → Random → (c d : List Float) → Voice
-midway meter left pulse random c d = record
-  { configuration = small; meter = meter; left = left; first = false; pulse = pulse; line = none; lpf = none; random = random
-  ; coefficients = c ++ replicate 62 0f; increments = 1f ∷ replicate 63 0f; targets = 5f ∷ replicate 63 0f; zero = freshFilter; nonzero = record { d = d ++ replicate 510 0f } }
+midway meter left pulse random c d = record {
+  configuration = small;
+  meter = meter;
+  left = left;
+  first = false;
+  pulse = pulse;
+  line = none;
+  lpf = none;
+  random = random;
+  coefficients = c ++ replicate 62 0f;
+  increments = 1f ∷ replicate 63 0f;
+  targets = 5f ∷ replicate 63 0f;
+  zero = freshFilter;
+  nonzero = record { d = d ++ replicate 510 0f };
+}
 
 -- pitch 4 and 3 counted: two samples of three, a pulse of height 2 and none; the first coefficient goes up by 1 each time
 pub first-two : drew (voiceOf 0) 2 (midway 3 3 (train 4f 3f 0f 2f) freshRandom (1f ∷ 0f ∷ []) (0f ∷ 0f ∷ []))

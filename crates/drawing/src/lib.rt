@@ -3,7 +3,7 @@ pub mod sound;
 
 ghost use mathlib.Core.Path.{_≡_};
 ghost use Prim.Native.Nat.{min};
-ghost use Rattle.drawing.specs.Draw.{Draws};
+ghost use Rattle.drawing.specs.Draw.{numberFor, Draws};
 use sound::sound;
 use voice::Voice;
 use voice::answers::DONE;
@@ -25,6 +25,13 @@ fn lesser(a: usize, b: usize) -> usize
     ensures { λ r. ⌜ r ≡ min a b ⌝ }
 {
     if a <= b { a } else { b }
+}
+
+// The number for so many samples of those asked for: where some are missing, the noise is dry.
+fn number_of(made: usize, count: usize) -> u64
+    ensures { λ r. ⌜ r ≡ numberFor made count ⌝ }
+{
+    if made < count { NOISE_DRY } else { DONE }
 }
 
 // DRAW: into the buffer from `start` on. A start past its end leaves no room.
@@ -65,15 +72,8 @@ pub fn draw(voice: Voice, out: &mut [f64], start: usize) -> Drawn
     let sounded = sound(voice, &mut out[start..end]);
     let after = sounded.voice;
     let made = sounded.made;
-    if made < count {
-        return Drawn {
-            number: NOISE_DRY,
-            made,
-            voice: after,
-        };
-    }
     Drawn {
-        number: DONE,
+        number: number_of(made, count),
         made,
         voice: after,
     }

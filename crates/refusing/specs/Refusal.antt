@@ -60,7 +60,7 @@ unfolding every ofBits
 every-finite = refl
 
 -- 2^20 is not beyond, and the next float is
-pub size-at-end : small (− mostSize) ≡ true
+pub size-at-end : small (fin true 1 (pos 20)) ≡ true
 unfolding small ofBits neg le lt
 size-at-end = refl
 

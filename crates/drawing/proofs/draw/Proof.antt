@@ -8,7 +8,7 @@ use lib.ListN.{length, length-append, length-drop}
 use borrow.Author.Tests.{eq-eqb, ne-eqb, not-true, not-false}
 use Rattle.number.specs.Lists.{row}
 use Rattle.voice.proofs.IdleLaws.{kept-of, total-of}
-use Rattle.drawing.proofs.DrawLaws.{lent-part, draws-idle, draws-none-left, draws-no-room, draws-dry, draws-done}
+use Rattle.drawing.proofs.DrawLaws.{lent-part, draws-idle, draws-none-left, draws-no-room, draws-made}
 use Rattle.drawing.proofs.draw.Statement.{statement}
 use Rattle.drawing.proofs.draw.Tie as tie
 
@@ -54,6 +54,9 @@ sound-requires c κs =
     let some : 0 < c .before .before .before .before .before .before .before .before .before .args .voice .left = omega (arith, c .before .before .before .if2 .left) in
     (kept-of _ _ _ _ _ (sym (c .before .before .before .before .before .before .usable .ensures) ∙ not-false _ (c .before .before .before .before .before .if1 .left)), omega (arith, long, less), total-of _ _ _ _ _ (sym (c .before .before .before .before .before .before .usable .ensures) ∙ not-false _ (c .before .before .before .before .before .if1 .left)), some)
 
+number-of-requires : tie.Need-number-of-requires
+number-of-requires c κs = search needs
+
 same-length : tie.Need-same-length
 same-length c = search needs
 
@@ -65,20 +68,7 @@ returns-4 c =
     let kept : length (c .before .before .before .before .sound .last .1 .0) ≡ length (row (c .before .before .before .before .before .before .before .before .before .before .before .before .before .before .args .start) (c .before .before .before .before .before .before .before .before .before .before .before .before .before .before .args .start + c .before .before .before .before .before .before .lesser .result) (c .before .before .before .before .before .before .before .before .before .before .before .before .before .before .args .out .now)) = c .before .before .before .before .sound .kept .1 .0 in
     let few : c .before .before .before .before .sound .result .made ≤ c .before .before .before .before .before .before .lesser .result = omega (arith, simp (length-append, length-drop) at (ap length (c .before .before .before .before .sound .ensures .1 .1)), c .before .before .before .before .sound .ensures .1 .0, kept, long) in
     let e = c .before .before .before .before .sound .ensures in
-    draws-dry (c .before .before .before .before .before .before .before .before .before .before .before .before .before .before .args .voice) (c .before .before .before .before .before .before .before .before .before .before .before .before .before .before .args .out .now) (c .before .before .before .before .before .before .before .before .before .before .before .before .before .before .args .start) (sym (c .before .before .before .before .before .before .before .before .before .before .before .usable .ensures) ∙ not-false _ (c .before .before .before .before .before .before .before .before .before .before .if1 .left)) (ne-eqb _ _ (c .before .before .before .before .before .before .before .before .if2 .left)) (c .before .before .before .before .before .before .lesser .result) (c .before .before .before .before .before .before .lesser .ensures) within _ _ _ (rw long at (e .0)) (rw long at (e .1 .0)) (rw long at (e .1 .1)) few (c .if4 .taken)
-
-same-length-2 : tie.Need-same-length-2
-same-length-2 c = search needs
-
-returns-5 : tie.Need-returns-5
-returns-5 c =
-    let room : c .before .before .before .before .before .before .lesser .result ≤ length (c .before .before .before .before .before .before .before .before .before .before .before .before .before .before .args .out .now) - c .before .before .before .before .before .before .before .before .before .before .before .before .before .before .args .start = subst (λ (j : ℕ). j ≤ length (c .before .before .before .before .before .before .before .before .before .before .before .before .before .before .args .out .now) - c .before .before .before .before .before .before .before .before .before .before .before .before .before .before .args .start) (sym (c .before .before .before .before .before .before .lesser .ensures)) (min-le-left (length (c .before .before .before .before .before .before .before .before .before .before .before .before .before .before .args .out .now) - c .before .before .before .before .before .before .before .before .before .before .before .before .before .before .args .start) (c .before .before .before .before .before .before .before .before .before .before .before .before .before .before .args .voice .left)) in
-    let within : c .before .before .before .before .before .before .before .before .before .before .before .before .before .before .args .start + c .before .before .before .before .before .before .lesser .result ≤ length (c .before .before .before .before .before .before .before .before .before .before .before .before .before .before .args .out .now) = omega (arith, room, c .before .before .before .before .before .before .before .if3 .left) in
-    let long = lent-part (c .before .before .before .before .before .before .before .before .before .before .before .before .before .before .args .start) (c .before .before .before .before .before .before .lesser .result) (c .before .before .before .before .before .before .before .before .before .before .before .before .before .before .args .out .now) within in
-    let kept : length (c .before .before .before .before .sound .last .1 .0) ≡ length (row (c .before .before .before .before .before .before .before .before .before .before .before .before .before .before .args .start) (c .before .before .before .before .before .before .before .before .before .before .before .before .before .before .args .start + c .before .before .before .before .before .before .lesser .result) (c .before .before .before .before .before .before .before .before .before .before .before .before .before .before .args .out .now)) = c .before .before .before .before .sound .kept .1 .0 in
-    let few : c .before .before .before .before .sound .result .made ≤ c .before .before .before .before .before .before .lesser .result = omega (arith, simp (length-append, length-drop) at (ap length (c .before .before .before .before .sound .ensures .1 .1)), c .before .before .before .before .sound .ensures .1 .0, kept, long) in
-    let e = c .before .before .before .before .sound .ensures in
-    draws-done (c .before .before .before .before .before .before .before .before .before .before .before .before .before .before .args .voice) (c .before .before .before .before .before .before .before .before .before .before .before .before .before .before .args .out .now) (c .before .before .before .before .before .before .before .before .before .before .before .before .before .before .args .start) (sym (c .before .before .before .before .before .before .before .before .before .before .before .usable .ensures) ∙ not-false _ (c .before .before .before .before .before .before .before .before .before .before .if1 .left)) (ne-eqb _ _ (c .before .before .before .before .before .before .before .before .if2 .left)) (c .before .before .before .before .before .before .lesser .result) (c .before .before .before .before .before .before .lesser .ensures) within _ _ _ (rw long at (e .0)) (rw long at (e .1 .0)) (rw long at (e .1 .1)) few (c .if4 .left)
+    draws-made (c .before .before .before .before .before .before .before .before .before .before .before .before .before .before .args .voice) (c .before .before .before .before .before .before .before .before .before .before .before .before .before .before .args .out .now) (c .before .before .before .before .before .before .before .before .before .before .before .before .before .before .args .start) (sym (c .before .before .before .before .before .before .before .before .before .before .before .usable .ensures) ∙ not-false _ (c .before .before .before .before .before .before .before .before .before .before .if1 .left)) (ne-eqb _ _ (c .before .before .before .before .before .before .before .before .if2 .left)) (c .before .before .before .before .before .before .lesser .result) (c .before .before .before .before .before .before .lesser .ensures) within _ _ _ (rw long at (e .0)) (rw long at (e .1 .0)) (rw long at (e .1 .1)) few _ (c .number-of .ensures)
 
 pub draw-spec : {M : Type 1} → statement M
 draw-spec =
@@ -96,7 +86,6 @@ draw-spec =
     part-sound-start
     part-sound-end
     sound-requires
+    number-of-requires
     same-length
-    returns-4
-    same-length-2
-    returns-5)
+    returns-4)
