@@ -1,24 +1,23 @@
 -- The ways out of draw. Assumes nothing.
 use mathlib.Core.Path.{_≡_, refl, sym, ap, _∙_}
-use mathlib.Core.Bool.{Bool, true, false, not}
+use mathlib.Core.Bool.{Bool, true, false}
 use mathlib.Core.List.{List, [], _∷_, _++_, append-assoc}
-use Prim.Native.Nat.{ℕ, zero, suc, _+_, _-_, _≤_, _<_, min}
+use Prim.Native.Nat.{ℕ, zero, suc, _+_, _-_, _≤_, min}
 use native.Mathlib.Nat.{zero-min}
 use native.Mathlib.Omega.{arith}
-use lib.Dec.{eqb, ltb}
+use lib.Dec.{eqb}
 use lib.ListN.{length, take, drop, take-append-drop, length-drop}
 use lib.Seq.{drop-drop, length-take-le}
 use lib.Ieee.{Float}
 use Rattle.number.specs.Lists.{over, row, putRow}
-use Rattle.history.specs.Steps.{Run, running, steps}
-use Rattle.history.specs.Machine.{Answer, answer, sampled, drew}
+use Rattle.history.specs.Steps.{steps}
+use Rattle.history.specs.Machine.{answer, sampled, drew}
 use Rattle.history.proofs.StepLaws.{steps-dry}
 use Rattle.noise.specs.Draw.{tries}
 use Rattle.voice.specs.declared.Voice.{Voice}
 use Rattle.voice.specs.Voice.{idle, acceptable}
-use Rattle.drawing.specs.declared.Drawn.{Drawn}
 use Rattle.drawing.specs.Step.{step}
-use Rattle.drawing.specs.Draw.{voiceOf, roomFrom, placed, numberFor, drawn, Draws}
+use Rattle.drawing.specs.Draw.{roomFrom, placed, numberFor, drawn, Draws}
 
 -- what was left of a part that was filled in front, and what follows it, is what follows the filled
 rest-of : (x : List Float) (m n : ℕ) → m ≤ n → drop m (take n x) ++ drop n x ≡ drop m x

@@ -1,17 +1,14 @@
 -- A sample keeps the number of the line's taps and of the coefficients. Assumes nothing.
 use mathlib.Core.Path.{_≡_, refl, sym, _∙_, ap}
 use mathlib.Core.Bool.{Bool, true, false, false≢true}
-use mathlib.Core.List.{List, [], _∷_, _++_}
+use mathlib.Core.List.{List, [], _∷_}
 use Prim.Native.Nat.{ℕ, zero, suc, _<_}
 use native.Mathlib.Omega.{arith}
 use lib.Dec.{eqb}
-use lib.ListN.{length, set, drop, length-set, length-append, length-drop}
+use lib.ListN.{length, length-set, length-append, length-drop}
 use lib.Ieee.{Float}
-use borrow.Author.Tests.{eqb-true}
 use Rattle.number.specs.F64.{_⊖_}
 use Rattle.history.specs.Steps.{Step, dry, one}
-use Rattle.history.specs.Through.{Turned}
-use Rattle.history.specs.Feeding.{Feeding, feeding, turnedBy}
 use Rattle.noise.specs.declared.Random.{Random}
 use Rattle.noise.specs.Noise.{noiseOf}
 use Rattle.pulse.specs.declared.Pulse.{Pulse}
@@ -21,7 +18,7 @@ use Rattle.vectors.specs.Vectors.{plus}
 use Rattle.excitation.specs.Excitation.{Excitation, following, noiseAlone, mixed, plainStep, mixedStep, mixedLine, stepOf}
 use Rattle.filter.specs.Sample.{sampleBy}
 use Rattle.configuration.specs.declared.Configuration.{Configuration}
-use Rattle.drawing.specs.Step.{Filters, turnZero, turnNonzero, turnOf}
+use Rattle.drawing.specs.Step.{Filters, turnOf}
 
 -- ---- the line
 

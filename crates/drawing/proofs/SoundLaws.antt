@@ -1,19 +1,18 @@
 -- The parts that the code lends of a voice, and what it puts back. Assumes nothing.
 use mathlib.Core.Path.{_≡_, refl, sym, ap, _∙_}
 use mathlib.Core.Bool.{true, false}
-use mathlib.Core.List.{List, [], _∷_, _++_}
+use mathlib.Core.List.{List, _++_}
 use Prim.Native.Nat.{ℕ, _+_, _-_, _≤_, _<_}
-use native.Mathlib.Omega.{arith}
 use lib.Dec.{eqb}
-use lib.ListN.{length, take, drop, length-append, length-drop}
+use lib.ListN.{length, drop}
 use lib.Seq.{drop-append-seam, take-append-seam}
 use lib.Ieee.{Float}
 use Rattle.number.specs.Lists.{over, row, putRow}
-use Rattle.history.specs.Steps.{Step, Run, steps}
+use Rattle.history.specs.Steps.{Run, steps}
 use Rattle.history.specs.Through.{Passage, passage, through}
-use Rattle.history.specs.Feeding.{Feeding, feeding, fed}
+use Rattle.history.specs.Feeding.{fed}
 use Rattle.history.proofs.ThroughLaws.{through-length}
-use Rattle.history.proofs.FeedingLaws.{thenThrough, fed-steps, putPassage, through-within}
+use Rattle.history.proofs.FeedingLaws.{thenThrough, fed-steps, through-within}
 use Rattle.noise.specs.declared.Random.{Random}
 use Rattle.pulse.specs.declared.Pulse.{Pulse}
 use Rattle.excitation.specs.Excitation as excitation
@@ -24,9 +23,8 @@ use Rattle.filter.specs.Sample.{State, state}
 use Rattle.filter.specs.Zero as zeroStage
 use Rattle.filter.specs.NonZero as otherStages
 use Rattle.voice.specs.declared.Voice.{Voice}
-use Rattle.voice.specs.Voice.{inFront}
 use Rattle.voice.proofs.FrontLaws.{lent-front, put-front}
-use Rattle.drawing.specs.Step.{Filters, filters, tapsOf, incrementsOf, excitationOf, filtersOf, soundOf, moved, withExcitation, withFilters, withSound, counted, closedAtEnd, turnOf, soundStep, step, filtered}
+use Rattle.drawing.specs.Step.{Filters, filters, tapsOf, incrementsOf, excitationOf, filtersOf, moved, withExcitation, withFilters, counted, closedAtEnd, turnOf, step, filtered}
 use Rattle.drawing.proofs.StepLaws.{Long, samples-are, finished}
 
 module _ (v : Voice) where

@@ -1,22 +1,19 @@
 -- Samples one by one are the excitation of them all, and then the filter over it. Assumes nothing.
 use mathlib.Core.Path.{_≡_, refl, sym, ap, _∙_}
-use mathlib.Core.Bool.{Bool, true, false}
-use mathlib.Core.List.{List, [], _∷_, _++_}
+use mathlib.Core.List.{[], _∷_}
 use Prim.Native.Nat.{ℕ, zero, suc, _+_, _-_, _≤_, _<_}
 use native.Mathlib.Omega.{arith}
-use lib.Dec.{eqb}
-use lib.ListN.{length, take}
+use lib.ListN.{length}
 use lib.Seq.{length-take-le}
 use lib.Ieee.{Float}
-use borrow.Author.Tests.{ne-eqb, eq-eqb}
+use borrow.Author.Tests.{ne-eqb}
 use Rattle.number.proofs.Lists.{length-over}
 use Rattle.history.specs.Steps.{Step, dry, one, Run, running, stopped, joined, onward, steps}
-use Rattle.history.specs.Feeding.{Feeding, feeding, turnedBy, fed}
+use Rattle.history.specs.Feeding.{Feeding, turnedBy}
 use Rattle.excitation.specs.Excitation.{Excitation, stepOf}
 use Rattle.voice.specs.declared.Voice.{Voice}
-use Rattle.voice.specs.Voice.{inFront}
 use Rattle.voice.proofs.FrontLaws.{front-twice, front-again, front-of}
-use Rattle.drawing.specs.Step.{Filters, tapsOf, incrementsOf, excitationOf, filtersOf, soundOf, withSound, counted, closed, closedAtEnd, turnOf, soundStep, stepped, step}
+use Rattle.drawing.specs.Step.{Filters, tapsOf, incrementsOf, soundOf, withSound, counted, closed, closedAtEnd, turnOf, soundStep, stepped, step}
 use Rattle.drawing.proofs.KeepLaws.{Taps, taps-kept, entries-kept}
 
 abbrev Sound : Type 0

@@ -1,15 +1,15 @@
 -- Draws at computed points. Assumes nothing.
 use mathlib.Core.Path.{_≡_, refl}
-use mathlib.Core.Bool.{true, false}
+use mathlib.Core.Bool.{false}
 use mathlib.Core.List.{List, [], _∷_, _++_}
 use Prim.Native.Nat.{ℕ}
-use lib.IntN.{pos, negsuc}
+use lib.IntN.{pos}
 use lib.ListN.{replicate}
-use lib.Ieee.{Float, fin, binary64, ofBits, ofInt, add, sub, mul, neg, eq, ne, lt, le}
+use lib.Ieee.{Float, binary64, ofBits, ofInt, add, sub, mul, neg, eq, ne, lt, le}
 use Rattle.number.specs.F64.{0f, ½f, 1f, 2f}
 use Rattle.root.specs.Root.{floorRoot, nearestRoot, unitsOf, rootOfUnits, rootOf}
 use Rattle.history.specs.Steps.{steps}
-use Rattle.history.specs.Machine.{Answer, answer, drew}
+use Rattle.history.specs.Machine.{answer, drew}
 use Rattle.noise.specs.declared.Random.{Random}
 use Rattle.noise.specs.Noise.{foundOf, pairOf, fillingOf, noiseOf, freshRandom}
 use Rattle.pulse.specs.declared.Pulse.{Pulse}

@@ -15,7 +15,7 @@ use Rattle.excitation.specs.Excitation as excitation
 use Rattle.excitation.specs.Excitation.{Excitation, stepOf}
 use Rattle.mlsa.specs.declared.MelLogSpectrumApproximation.{MelLogSpectrumApproximation}
 use Rattle.mglsa.specs.declared.MelGeneralizedLogSpectrumApproximation.{MelGeneralizedLogSpectrumApproximation}
-use Rattle.filter.specs.Sample.{State, state}
+use Rattle.filter.specs.Sample.{state}
 use Rattle.filter.specs.Zero as zeroStage
 use Rattle.filter.specs.NonZero as otherStages
 use Rattle.configuration.specs.declared.Configuration.{Configuration}

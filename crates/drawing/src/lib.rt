@@ -27,6 +27,17 @@ fn lesser(a: usize, b: usize) -> usize
     if a <= b { a } else { b }
 }
 
+// An answer without samples.
+fn nothing(number: u64, voice: Voice) -> Drawn
+    ensures { λ r. ⌜ r ≡ record { number = number; made = 0; voice = voice } ⌝ }
+{
+    Drawn {
+        number,
+        made: 0,
+        voice,
+    }
+}
+
 // The number for so many samples of those asked for: where some are missing, the noise is dry.
 fn number_of(made: usize, count: usize) -> u64
     ensures { λ r. ⌜ r ≡ numberFor made count ⌝ }
@@ -46,26 +57,14 @@ pub fn draw(voice: Voice, out: &mut [f64], start: usize) -> Drawn
         voice.first,
         random.used,
     ) {
-        return Drawn {
-            number: VOICE_IDLE,
-            made: 0,
-            voice,
-        };
+        return nothing(VOICE_IDLE, voice);
     }
     if voice.left == 0 {
-        return Drawn {
-            number: NOTHING_LEFT,
-            made: 0,
-            voice,
-        };
+        return nothing(NOTHING_LEFT, voice);
     }
     let len = out.len();
     if start >= len {
-        return Drawn {
-            number: DONE,
-            made: 0,
-            voice,
-        };
+        return nothing(DONE, voice);
     }
     let count = lesser(len - start, voice.left);
     let end = start + count;

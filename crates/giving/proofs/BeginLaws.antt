@@ -4,8 +4,8 @@ use mathlib.Core.List.{List, [], _∷_}
 use Prim.Native.Nat.{ℕ, zero, suc, _<_}
 use native.Mathlib.Omega.{arith}
 use lib.IntN.{pos}
-use lib.ListN.{length, getD}
-use lib.Ieee.{Float, nan, binary64, ofInt}
+use lib.ListN.{length}
+use lib.Ieee.{Float, binary64, ofInt}
 use Rattle.number.specs.F64.{_⊖_, _⊘_, _‼_}
 use Rattle.elementary.specs.declared.answer.Prepared.{Prepared}
 use Rattle.elementary.specs.declared.answer.Prepared.the-variants as prepared

@@ -1,10 +1,10 @@
 -- What the code's arrays come to, and the two ways out of give. Assumes nothing.
-use mathlib.Core.Path.{_≡_, refl, sym, ap, _∙_}
-use mathlib.Core.Bool.{Bool, false}
-use mathlib.Core.List.{List, [], _∷_}
+use mathlib.Core.Path.{_≡_, refl, sym, _∙_}
+use mathlib.Core.Bool.{false}
+use mathlib.Core.List.{List}
 use Prim.Native.Nat.{ℕ, zero, suc}
 use native.Mathlib.Omega.{arith}
-use lib.ListN.{length, take}
+use lib.ListN.{length}
 use lib.Ieee.{Float}
 use Rattle.number.specs.Lists.{row, putRow}
 use Rattle.elementary.specs.declared.answer.Prepared.{Prepared}
@@ -14,14 +14,13 @@ use Rattle.prepare.specs.Preparing.{Spectra, startAfter, targetsAfter}
 use Rattle.pulse.specs.declared.Pulse.{Pulse}
 use Rattle.pulse.specs.Train.{startOf}
 use Rattle.history.specs.Numbers.{argumentOutside}
-use Rattle.history.specs.Machine.{_⇒_, firstOf}
 use Rattle.voice.specs.declared.Voice.{Voice}
 use Rattle.voice.specs.declared.Answered.{Answered}
 use Rattle.voice.proofs.FrontLaws.{lent-front, put-front}
 use Rattle.refusing.specs.Refusal.{Frame, earlier}
 use Rattle.giving.specs.Pitch.{pitchOf}
 use Rattle.giving.specs.Begin.{preparedFor, incrementsAfter}
-use Rattle.giving.specs.Give.{prepared, isOutside, refusal, begun, given, Accepts, Gives}
+use Rattle.giving.specs.Give.{prepared, refusal, begun, given, Accepts, Gives}
 
 module _ (f : Frame) (v : Voice) where
   -- as the code lends and asks it

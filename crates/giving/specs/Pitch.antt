@@ -1,7 +1,6 @@
 -- The pitch of a frame. Assumes nothing.
 use mathlib.Core.Path.{_≡_, refl}
 use mathlib.Core.Bool.{cond}
-use Prim.Native.Nat.{ℕ}
 use lib.IntN.{pos}
 use lib.Ieee.{Float, binary64, ofBits, ofInt, eq}
 use Rattle.number.specs.F64.{_⊘_}

@@ -1,7 +1,7 @@
 -- A machine that is given frames and makes samples of them, and what document 01's calls answer of it. Assumes nothing.
 use mathlib.Core.Path.{_≡_, refl}
 use mathlib.Core.List.{List, [], _∷_}
-use mathlib.Core.Bool.{Bool, true, false, cond}
+use mathlib.Core.Bool.{Bool, cond}
 use Prim.Native.Nat.{ℕ, zero, suc, min, _-_}
 use lib.Dec.{eqb, ltb}
 use Rattle.history.specs.Numbers.{done, voiceIdle, samplesLeft, tapCount, nothingLeft, noiseDry, bufferShort}

@@ -2,7 +2,7 @@
 pub mod answers;
 
 ghost use mathlib.Core.Path.{_≡_};
-ghost use Rattle.voice.specs.Voice.{atRest, freshVoice, idleVoice, acceptable};
+ghost use Rattle.voice.specs.Voice.{atRest, idleVoice, acceptable};
 ghost use Rattle.voice.specs.Open.{Opens};
 use answers::DONE;
 use answers::LIMIT_BROKEN;

@@ -25,7 +25,7 @@ use Rattle.refusing.proofs.EarlierLaws.{fits-of, sizes-of}
 use Rattle.giving.specs.Give.{prepared, refusal, begun, given, Gives}
 use Rattle.drawing.specs.declared.Drawn.{Drawn}
 use Rattle.drawing.specs.Step.{step}
-use Rattle.drawing.specs.Draw.{voiceOf, roomFrom, placed, drawn, Draws}
+use Rattle.drawing.specs.Draw.{roomFrom, placed, Draws}
 use Rattle.whole.specs.Whole.{rendered, Renders}
 
 -- ---- ACCEPTED EXACTLY WHERE NO REFUSAL APPLIES

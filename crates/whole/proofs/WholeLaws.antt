@@ -1,17 +1,16 @@
 -- The ways out of whole frame. Assumes nothing.
-use mathlib.Core.Path.{_≡_, refl, sym, ap, _∙_}
+use mathlib.Core.Path.{_≡_, refl, sym, _∙_}
 use mathlib.Core.List.{List, []}
 use Prim.Native.Nat.{ℕ, zero, suc}
 use lib.ListN.{length}
 use lib.Ieee.{Float}
-use Rattle.history.specs.Machine.{Answer, answer, gave, whole}
-use Rattle.noise.specs.Draw.{tries}
+use Rattle.history.specs.Machine.{answer, gave, whole}
 use Rattle.voice.specs.declared.Voice.{Voice}
 use Rattle.voice.specs.declared.Answered.{Answered}
 use Rattle.refusing.specs.Refusal.{Frame}
 use Rattle.giving.specs.Give.{refusal, given, Gives}
 use Rattle.drawing.specs.declared.Drawn.{Drawn}
-use Rattle.drawing.specs.Draw.{voiceOf, roomFrom, drawn, Draws}
+use Rattle.drawing.specs.Draw.{drawn, Draws}
 use Rattle.drawing.proofs.DrawLaws.{placed-none}
 use Rattle.whole.specs.Whole.{shortOf, rendered, Renders}
 

@@ -15,14 +15,23 @@ use Rattle.drawing.proofs.draw.Tie as tie
 usable-requires : tie.Need-usable-requires
 usable-requires c κs = search needs
 
+nothing-requires : tie.Need-nothing-requires
+nothing-requires c κs = search needs
+
 returns : tie.Need-returns
-returns c = draws-idle (c .before .before .before .before .args .voice) (c .before .before .before .before .args .out .now) (c .before .before .before .before .args .start) (sym (c .before .usable .ensures) ∙ not-true _ (c .if1 .taken))
+returns c = rw (c .nothing .ensures) (draws-idle (c .before .before .before .before .before .args .voice) (c .before .before .before .before .before .args .out .now) (c .before .before .before .before .before .args .start) (sym (c .before .before .usable .ensures) ∙ not-true _ (c .before .if1 .taken)))
+
+nothing-requires-2 : tie.Need-nothing-requires-2
+nothing-requires-2 c κs = search needs
 
 returns-2 : tie.Need-returns-2
-returns-2 c = draws-none-left (c .before .before .before .before .before .before .args .voice) (c .before .before .before .before .before .before .args .out .now) (c .before .before .before .before .before .before .args .start) (sym (c .before .before .before .usable .ensures) ∙ not-false _ (c .before .before .if1 .left)) (eq-eqb _ _ (c .if2 .taken))
+returns-2 c = rw (c .nothing2 .ensures) (draws-none-left (c .before .before .before .before .before .before .before .args .voice) (c .before .before .before .before .before .before .before .args .out .now) (c .before .before .before .before .before .before .before .args .start) (sym (c .before .before .before .before .usable .ensures) ∙ not-false _ (c .before .before .before .if1 .left)) (eq-eqb _ _ (c .before .if2 .taken)))
+
+nothing-requires-3 : tie.Need-nothing-requires-3
+nothing-requires-3 c κs = search needs
 
 returns-3 : tie.Need-returns-3
-returns-3 c = draws-no-room (c .before .before .before .before .before .before .before .args .voice) (c .before .before .before .before .before .before .before .args .out .now) (c .before .before .before .before .before .before .before .args .start) (sym (c .before .before .before .before .usable .ensures) ∙ not-false _ (c .before .before .before .if1 .left)) (ne-eqb _ _ (c .before .if2 .left)) (c .if3 .taken)
+returns-3 c = rw (c .nothing3 .ensures) (draws-no-room (c .before .before .before .before .before .before .before .before .args .voice) (c .before .before .before .before .before .before .before .before .args .out .now) (c .before .before .before .before .before .before .before .before .args .start) (sym (c .before .before .before .before .before .usable .ensures) ∙ not-false _ (c .before .before .before .before .if1 .left)) (ne-eqb _ _ (c .before .before .if2 .left)) (c .before .if3 .taken))
 
 sub-lesser : tie.Need-sub-lesser
 sub-lesser c = search needs
@@ -75,8 +84,11 @@ draw-spec =
     tie.close
     (tie.spec
     usable-requires
+    nothing-requires
     returns
+    nothing-requires-2
     returns-2
+    nothing-requires-3
     returns-3
     sub-lesser
     lesser-requires

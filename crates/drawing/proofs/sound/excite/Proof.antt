@@ -1,6 +1,6 @@
 -- `excite` meets its contract: what is lent of the line and of the taps is their front. Assumes nothing.
 use borrow.Author.Needs.{needs}
-use mathlib.Core.Path.{_≡_, refl, sym, ap, _∙_}
+use mathlib.Core.Path.{_≡_, _∙_}
 use native.Mathlib.Omega.{arith}
 use lib.ListN.{length}
 use Rattle.configuration.proofs.LimitsLaws.{sizes}

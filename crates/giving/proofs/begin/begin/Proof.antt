@@ -1,10 +1,8 @@
 -- `begin` meets its contract: outside or inside as preparing is. Assumes nothing.
 use borrow.Author.Needs.{needs}
-use mathlib.Core.Path.{_≡_, refl, sym, _∙_}
-use native.Mathlib.Omega.{arith}
-use lib.ListN.{length}
+use mathlib.Core.Path.{refl, sym, _∙_}
 use Rattle.elementary.proofs.OutcomeLaws.{is-outside}
-use Rattle.giving.specs.Begin.{preparedFor, incrementsOf}
+use Rattle.giving.specs.Begin.{preparedFor}
 use Rattle.giving.proofs.BeginLaws.{increments-after}
 use Rattle.giving.proofs.begin.begin.Statement.{statement}
 use Rattle.giving.proofs.begin.begin.Tie as tie

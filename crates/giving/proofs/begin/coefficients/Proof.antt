@@ -1,6 +1,5 @@
 -- `coefficients` meets its contract. Assumes nothing.
 use borrow.Author.Needs.{needs}
-use mathlib.Core.Path.{refl}
 use borrow.Author.Tests.{eq-eqb, ne-eqb}
 use Rattle.giving.specs.Begin.{preparedFor}
 use Rattle.giving.proofs.begin.coefficients.Statement.{statement}
