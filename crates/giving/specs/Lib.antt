@@ -1,3 +1,4 @@
 pub mod Pitch
 pub mod Begin
 pub mod Give
+pub mod Examples

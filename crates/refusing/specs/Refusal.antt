@@ -6,13 +6,14 @@ use Prim.Native.Nat.{ℕ, _+_}
 use lib.Dec.{eqb, ltb, leb}
 use lib.IntN.{pos, negsuc}
 use lib.ListN.{length}
-use lib.Ieee.{Float, fin, inf, binary64, ofBits, neg, le, lt}
+use lib.Ieee.{Float, nan, fin, inf, binary64, ofBits, neg, le, lt}
 use Rattle.number.specs.F64.{−_, 1f}
 use Rattle.number.specs.Range.{finite, isWithin}
 use Rattle.history.specs.Numbers.{voiceIdle, samplesLeft, spectrumLength, tapCount, notFinite, entryBeyond, meterFull}
 use Rattle.history.specs.Machine.{_⇒_, firstOf}
 use Rattle.voice.specs.declared.Voice.{Voice}
-use Rattle.voice.specs.Voice.{idle, mostMeter}
+use Rattle.configuration.specs.Limits.{limitsKept, usual}
+use Rattle.voice.specs.Voice.{atRest, freshVoice, idleVoice, acceptable, idle, mostMeter}
 
 -- log pitch, spectrum and filter taps
 pub record Frame : Type 0 where
@@ -67,3 +68,12 @@ size-at-end = refl
 pub size-beyond : small (fin false 4503599627370497 (negsuc 31)) ≡ false
 unfolding small ofBits neg le lt
 size-beyond = refl
+
+-- a spectrum and taps of wrong lengths, and a NaN: 4 stands first; a voice that is idle besides: 2
+pub first-of-three : earlier (frame nan [] (1f ∷ [])) (freshVoice usual) ≡ 4
+unfolding earlier idle acceptable atRest limitsKept every ofBits neg lt le
+first-of-three = refl
+
+pub idle-before-all : earlier (frame nan [] (1f ∷ [])) idleVoice ≡ 2
+unfolding earlier idle acceptable atRest limitsKept
+idle-before-all = refl
