@@ -1,10 +1,9 @@
 -- Frames given at computed points. Assumes nothing.
 use mathlib.Core.Path.{_≡_, refl}
-use mathlib.Core.Bool.{true, false}
-use mathlib.Core.List.{List, [], _∷_, _++_}
-use lib.IntN.{pos}
+use mathlib.Core.Bool.{false}
+use mathlib.Core.List.{List, [], _∷_}
 use lib.ListN.{replicate}
-use lib.Ieee.{Float, binary64, ofBits, ofInt, add, sub, mul, div, neg, lt, le, eq, ne}
+use lib.Ieee.{Float, ofBits, ofInt, add, sub, mul, div, neg, lt, le, eq, ne}
 use Rattle.number.specs.F64.{0f, ½f, 1f, 2f}
 use Rattle.pulse.specs.Train.{freshPulse, startOf}
 use Rattle.noise.specs.Noise.{freshRandom}
@@ -15,7 +14,6 @@ use Rattle.postfilter.specs.Mel.{postfilterMcpOf}
 use Rattle.prepare.specs.Preparing.{targetsMcp, preparedMcp}
 use Rattle.configuration.specs.declared.Configuration.{Configuration}
 use Rattle.configuration.specs.Limits.{limitsKept, usual}
-use Rattle.voice.specs.declared.Voice.{Voice}
 use Rattle.voice.specs.Voice.{none, atRest, freshVoice, acceptable, idle}
 use Rattle.refusing.specs.Refusal.{Frame, frame, every, earlier}
 use Rattle.giving.specs.Pitch.{pitchOf}
