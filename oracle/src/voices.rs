@@ -16,11 +16,20 @@ use std::cell::RefCell;
 use std::path::Path;
 use std::rc::Rc;
 
-/// A voice, and the calls that are made of it.
+/// A voice, and what is done with it.
 pub struct Case {
     pub configuration: Configuration,
-    pub calls: Vec<Call>,
+    pub steps: Vec<Step>,
 }
+
+/// A call, or the voice is handed on with another meter. The list counts both as calls.
+pub enum Step {
+    Call(Call),
+    Meter(u64),
+}
+
+/// The list's kind of the step that is no call.
+const METER: u64 = 3;
 
 /// Before a call a buffer holds these.
 pub const BEFORE: f64 = 1.0;
@@ -46,21 +55,29 @@ pub fn print_outcomes(ours: &Rc<RefCell<Ours>>) -> Result<(), String> {
     Ok(())
 }
 
-/// The configuration, the number of calls, the calls.
+/// The configuration, the number of steps, the steps.
 fn asked(case: &Case) -> Vec<u64> {
     let mut words = case.configuration.words().to_vec();
-    words.push(case.calls.len() as u64);
-    for call in &case.calls {
-        let Frame { lf0, spectrum, lpf } = &call.frame;
-        words.extend([
-            call.kind as u64,
-            call.buffer.len() as u64,
-            call.start as u64,
-        ]);
-        words.extend(bits(&[*lf0]));
-        words.extend([spectrum.len() as u64, lpf.len() as u64]);
-        words.extend(bits(spectrum).chain(bits(lpf)));
+    words.push(case.steps.len() as u64);
+    for step in &case.steps {
+        match step {
+            Step::Call(call) => words.extend(asked_call(call)),
+            Step::Meter(meter) => words.extend([METER, 0, *meter, 0, 0, 0]),
+        }
     }
+    words
+}
+
+fn asked_call(call: &Call) -> Vec<u64> {
+    let Frame { lf0, spectrum, lpf } = &call.frame;
+    let mut words = vec![
+        call.kind as u64,
+        call.buffer.len() as u64,
+        call.start as u64,
+    ];
+    words.extend(bits(&[*lf0]));
+    words.extend([spectrum.len() as u64, lpf.len() as u64]);
+    words.extend(bits(spectrum).chain(bits(lpf)));
     words
 }
 
@@ -69,31 +86,36 @@ fn read(words: &mut impl Iterator<Item = u64>) -> Option<Case> {
     let count = words.next()?;
     Some(Case {
         configuration: Configuration::of(configuration.try_into().ok()?),
-        calls: (0..count)
-            .map(|_| read_call(words))
+        steps: (0..count)
+            .map(|_| read_step(words))
             .collect::<Option<_>>()?,
     })
 }
 
-fn read_call(words: &mut impl Iterator<Item = u64>) -> Option<Call> {
+fn read_step(words: &mut impl Iterator<Item = u64>) -> Option<Step> {
     let kind = match words.next()? {
-        0 => Kind::Give,
-        1 => Kind::Draw,
-        2 => Kind::WholeFrame,
+        0 => Some(Kind::Give),
+        1 => Some(Kind::Draw),
+        2 => Some(Kind::WholeFrame),
+        METER => None,
         _ => return None,
     };
-    let (room, start) = (words.next()? as usize, words.next()? as usize);
+    let (room, start) = (words.next()? as usize, words.next()?);
     let lf0 = f64::from_bits(words.next()?);
     let (nspectrum, nlpf) = (words.next()? as usize, words.next()? as usize);
-    Some(Call {
-        kind,
-        frame: Frame {
-            lf0,
-            spectrum: floats(words, nspectrum)?,
-            lpf: floats(words, nlpf)?,
-        },
-        buffer: vec![BEFORE; room],
-        start,
+    let frame = Frame {
+        lf0,
+        spectrum: floats(words, nspectrum)?,
+        lpf: floats(words, nlpf)?,
+    };
+    Some(match kind {
+        Some(kind) => Step::Call(Call {
+            kind,
+            frame,
+            buffer: vec![BEFORE; room],
+            start: start as usize,
+        }),
+        None => Step::Meter(start),
     })
 }
 
@@ -101,11 +123,18 @@ fn read_call(words: &mut impl Iterator<Item = u64>) -> Option<Call> {
 fn made(case: &Case, remembered: &Rc<Remembered>) -> Vec<u64> {
     let (number, mut rusts) = Rusts::open(remembered, case.configuration);
     let mut words = vec![number];
-    for call in &case.calls {
-        words.extend(answered(call.kind, &rusts.call(call)));
+    for step in &case.steps {
+        match step {
+            Step::Call(call) => words.extend(answered(call.kind, &rusts.call(call))),
+            Step::Meter(meter) => rusts = with_meter(&rusts.voice(), *meter, remembered),
+        }
     }
     words.extend(end(&rusts.voice()));
     words
+}
+
+fn with_meter(voice: &Voice, meter: u64, remembered: &Rc<Remembered>) -> Rusts {
+    Rusts::at(remembered, Voice { meter, ..*voice })
 }
 
 /// The number; but of a give also the samples made, and the whole buffer.

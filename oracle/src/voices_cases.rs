@@ -7,7 +7,7 @@ use crate::generator::Generator;
 use crate::spectrum_values::decaying;
 use crate::voice::Call;
 use crate::voice_structs::Configuration;
-use crate::voices::{BEFORE, Case};
+use crate::voices::{BEFORE, Case, Step};
 use crate::voices_refused;
 use pinned::constants::{MAX_LF0, MIN_LF0, NODATA};
 use std::path::Path;
@@ -57,6 +57,7 @@ pub fn all(folder: &Path) -> Result<Vec<Case>, String> {
     cases.extend(voices_refused::all(random));
     cases.push(other_ends(random));
     cases.push(real(announcement(folder)?.swap_remove(0))?);
+    cases.push(voices_refused::meter_at_its_end(random));
     Ok(cases)
 }
 
@@ -92,12 +93,16 @@ pub fn frame(configuration: &Configuration, lf0: f64, random: &mut Generator) ->
     }
 }
 
-pub fn draw(room: usize, start: usize) -> Call {
-    Call::draw(vec![BEFORE; room], start)
+pub fn give(frame: Frame) -> Step {
+    Step::Call(Call::give(frame))
 }
 
-pub fn whole(frame: Frame, room: usize, start: usize) -> Call {
-    Call::whole_frame(frame, vec![BEFORE; room], start)
+pub fn draw(room: usize, start: usize) -> Step {
+    Step::Call(Call::draw(vec![BEFORE; room], start))
+}
+
+pub fn whole(frame: Frame, room: usize, start: usize) -> Step {
+    Step::Call(Call::whole_frame(frame, vec![BEFORE; room], start))
 }
 
 /// Three frames, the first voiced and cut, the second voiced or not and whole, the third voiced and not drawn to its end.
@@ -109,13 +114,13 @@ fn spoken(settings: Settings, random: &mut Generator) -> Case {
     let [first, second, third] = lf0s.map(|lf0| frame(&configuration, lf0, random));
     Case {
         configuration,
-        calls: vec![
-            Call::give(first),
+        steps: vec![
+            give(first),
             draw(fperiod / 2, 0),
             draw(2, 2),
             draw(fperiod + 2, 1),
             whole(second, fperiod + 2, 1),
-            Call::give(third),
+            give(third),
             draw(fperiod - 1, 0),
         ],
     }
@@ -133,7 +138,7 @@ fn other_ends(random: &mut Generator) -> Case {
     let frames = lf0s.map(|lf0| frame(&configuration, lf0, random));
     Case {
         configuration,
-        calls: frames.map(|frame| whole(frame, 4, 0)).into(),
+        steps: frames.map(|frame| whole(frame, 4, 0)).into(),
     }
 }
 
@@ -161,9 +166,9 @@ fn real(set: FrameSet) -> Result<Case, String> {
     let fperiod = configuration.fperiod;
     Ok(Case {
         configuration,
-        calls: vec![
+        steps: vec![
             whole(frames[0].clone(), fperiod, 0),
-            Call::give(frames[1].clone()),
+            give(frames[1].clone()),
             draw(fperiod / 2, 0),
             draw(fperiod, 0),
         ],

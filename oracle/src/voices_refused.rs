@@ -2,11 +2,10 @@
 
 use crate::frames::Frame;
 use crate::generator::Generator;
-use crate::voice::Call;
-use crate::voice_numbers::MOST_ENTRY;
+use crate::voice_numbers::{MOST_ENTRY, MOST_METER};
 use crate::voice_structs::Configuration;
-use crate::voices::Case;
-use crate::voices_cases::{draw, frame, opened, whole};
+use crate::voices::{Case, Step};
+use crate::voices_cases::{draw, frame, give, opened, whole};
 use pinned::constants::NODATA;
 
 /// What is wrong with a frame of four entries and two taps; of several faults the first in document 01's table counts, and
@@ -40,7 +39,7 @@ fn not_opened(random: &mut Generator) -> Case {
     let [first, second] = [5.0, 6.0].map(|lf0| frame(&good, lf0, random));
     Case {
         configuration: Configuration { nmcp: 1, ..good },
-        calls: vec![Call::give(first), draw(2, 0), whole(second, 3, 1)],
+        steps: vec![give(first), draw(2, 0), whole(second, 3, 1)],
     }
 }
 
@@ -49,23 +48,23 @@ fn refused(random: &mut Generator) -> Case {
     let configuration = opened((2, 4, 2, false, 0.3, 3));
     let first = frame(&configuration, 9.0, random);
     let good = || first.clone();
-    let mut calls = vec![draw(2, 0), draw(0, 0)];
-    calls.extend([whole(good(), 3, 1), whole(good(), 2, 7)]);
-    calls.extend([Call::give(good()), draw(1, 0)]);
-    calls.extend([Call::give(good()), whole(good(), 3, 0), whole(good(), 2, 0)]);
-    calls.push(draw(4, 0));
+    let mut steps = vec![draw(2, 0), draw(0, 0)];
+    steps.extend([whole(good(), 3, 1), whole(good(), 2, 7)]);
+    steps.extend([give(good()), draw(1, 0)]);
+    steps.extend([give(good()), whole(good(), 3, 0), whole(good(), 2, 0)]);
+    steps.push(draw(4, 0));
     for (number, fault) in FAULTS.into_iter().enumerate() {
         let mut frame = good();
         fault(&mut frame);
-        calls.push(match number % 3 {
+        steps.push(match number % 3 {
             2 => whole(frame, 3, 0),
-            _ => Call::give(frame),
+            _ => give(frame),
         });
     }
-    calls.push(whole(frame(&configuration, 8.0, random), 3, 0));
+    steps.push(whole(frame(&configuration, 8.0, random), 3, 0));
     Case {
         configuration,
-        calls,
+        steps,
     }
 }
 
@@ -77,6 +76,34 @@ fn refused_at_first(random: &mut Generator) -> Case {
     equal.spectrum[1..4].fill(1.0);
     Case {
         configuration,
-        calls: vec![Call::give(equal), whole(good, 4, 0)],
+        steps: vec![give(equal), whole(good, 4, 0)],
+    }
+}
+
+/// The meter has no room for a frame, and a fault of the frame counts before that; room for one; a meter at which no frame
+/// ends; and one far from its end.
+pub fn meter_at_its_end(random: &mut Generator) -> Case {
+    let configuration = opened((0, 3, 1, false, 0.0, 5));
+    let lf0s = [NODATA, 8.5, 9.0];
+    let [first, good, last] = lf0s.map(|lf0| frame(&configuration, lf0, random));
+    let good = || good.clone();
+    let mut not_finite = good();
+    not_finite.lf0 = f64::INFINITY;
+    Case {
+        configuration,
+        steps: vec![
+            whole(first, 5, 0),
+            Step::Meter(MOST_METER - 2),
+            give(good()),
+            whole(good(), 5, 0),
+            give(not_finite),
+            Step::Meter(MOST_METER - 7),
+            whole(good(), 5, 0),
+            give(good()),
+            Step::Meter(MOST_METER),
+            give(good()),
+            Step::Meter((1 << 62) - 4),
+            whole(last, 5, 0),
+        ],
     }
 }

@@ -1,8 +1,10 @@
 // Opens voices and makes calls of them. Each case is a list of words, one a line, floats by their bits: the twelve slots of the
-// configuration; the count of calls; the calls. A call is its kind (0 give, 1 draw, 2 whole frame), the length of its buffer (at most
-// 512), its start, lf0, the counts of spectrum entries and of taps (at most 80 each), the entries, the taps. It writes the number of the
-// open; of each call the number, and but of a give the samples made and the whole buffer, which holds ones before; at the end of a case the
-// meter, the samples left, the first flag, the pulse and the coefficients. A case that is cut off, or past a limit, ends the program.
+// configuration; the count of calls; the calls. A call is its kind (0 give, 1 draw, 2 whole frame, 3 another meter), the length of its
+// buffer (at most 512), its start, lf0, the counts of spectrum entries and of taps (at most 80 each), the entries, the taps. By kind 3 the
+// voice is handed on with another meter, which stands in the place of the start; its other words are as in every call. The program
+// writes the number of the open; of each call of the kinds 0 to 2 the number, and but of a give the samples made and the whole buffer,
+// which holds ones before; at the end of a case the meter, the samples left, the first flag, the pulse and the coefficients. A case that
+// is cut off, or past a limit, ends the program.
 ghost use Prim.Native.Nat.{_+_, _-_, _*_, _≤_};
 ghost use lib.ListN.{length};
 use configuration::Configuration;
@@ -13,12 +15,12 @@ use voice::Voice;
 // What stands in a buffer before a call.
 const BEFORE: f64 = 1.0;
 
-// The kinds of calls.
+// The kinds of calls. The whole frame, 2, is what none of these is.
 const GIVE: u64 = 0;
 
 const DRAW: u64 = 1;
 
-const WHOLE_FRAME: u64 = 2;
+const METER: u64 = 3;
 
 // Whether calls were read to their end; the place in the text after them; the voice after them.
 struct Replayed {
@@ -76,6 +78,13 @@ fn give(voice: Voice, lf0: f64, spectrum: &[f64], lpf: &[f64]) -> Voice {
     answered.voice
 }
 
+// The voice with another meter.
+fn with_meter(handed: Voice, meter: u64) -> Voice {
+    let mut voice = handed;
+    voice.meter = meter;
+    voice
+}
+
 // Draws, or gives a whole frame.
 fn sound(
     voice: Voice,
@@ -106,6 +115,9 @@ fn make_call(
     requires { ⌜ (length (now spectrum) ≤ 80) × (length (now lpf) ≤ 80) ⌝ }
 {
     let kind = words::word(text, at);
+    if kind == METER {
+        return with_meter(voice, words::word(text, at + 17 * 2));
+    }
     let start = words::word(text, at + 17 * 2) as usize;
     let lf0 = words::float(text, at + 17 * 3);
     words::floats(text, at + 17 * 6, spectrum);
@@ -161,7 +173,7 @@ fn replay_call(text: &[u8], at: usize, voice: Voice) -> Replayed
     let room = words::word(text, at + 17) as usize;
     let entries = words::word(text, at + 17 * 4) as usize;
     let taps = words::word(text, at + 17 * 5) as usize;
-    if kind > WHOLE_FRAME {
+    if kind > METER {
         return cut;
     }
     if room > 512 {

@@ -1,7 +1,7 @@
 -- `refusal` meets its contract. Assumes nothing.
 use borrow.Author.Needs.{needs}
 use mathlib.Core.Path.{refl, sym, _∙_}
-use Prim.Native.Nat.{_-_, _<_}
+use Prim.Native.Nat.{_-_, _<_, _≤_}
 use native.Mathlib.Omega.{arith}
 use borrow.Author.Tests.{not-true, not-false, lt-ltb, le-ltb}
 use Rattle.configuration.proofs.LimitsLaws.{sizes}
@@ -26,11 +26,15 @@ returns-2 c =
 
 returns-3 : tie.Need-returns-3
 unfolding idle
-returns-3 c = rw ((sym (c .before .before .before .before .usable .ensures) ∙ not-false _ (c .before .before .before .if1 .left)), lt-ltb _ _ (c .if3 .taken)) refl
+returns-3 c =
+    let short : c .before .before .before .before .before .before .before .args .len - c .before .before .before .before .before .before .before .args .start < c .before .before .before .before .before .before .before .args .voice .configuration .fperiod = omega (arith, c .if3 .taken) in
+    rw ((sym (c .before .before .before .before .usable .ensures) ∙ not-false _ (c .before .before .before .if1 .left)), lt-ltb _ _ short) refl
 
 returns-4 : tie.Need-returns-4
 unfolding idle
-returns-4 c = rw ((sym (c .before .before .before .before .usable .ensures) ∙ not-false _ (c .before .before .before .if1 .left)), le-ltb _ _ (c .if3 .left)) refl
+returns-4 c =
+    let room : c .before .before .before .before .before .before .before .args .voice .configuration .fperiod ≤ c .before .before .before .before .before .before .before .args .len - c .before .before .before .before .before .before .before .args .start = omega (arith, c .if3 .left) in
+    rw ((sym (c .before .before .before .before .usable .ensures) ∙ not-false _ (c .before .before .before .if1 .left)), le-ltb _ _ room) refl
 
 pub refusal-spec : {M : Type 1} → statement M
 refusal-spec = tie.close (tie.spec usable-requires returns returns-2 returns-3 returns-4)
