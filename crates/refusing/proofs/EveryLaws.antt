@@ -3,21 +3,19 @@ use mathlib.Core.Path.{_≡_, refl}
 use mathlib.Core.Bool.{Bool, true, false}
 use mathlib.Core.List.{List}
 use Prim.Native.Nat.{ℕ, _+_, _≤_, _<_}
-use lib.Ieee.{Float, nan}
-use lib.ListN.{length, drop}
-use Rattle.number.specs.F64.{_‼_}
+use lib.ListN.{length, getD, drop}
 use Rattle.number.proofs.Lists.{left-next, left-none}
 use Rattle.refusing.specs.Refusal.{every}
 
-module _ (test : Float → Bool) (l : List Float) (i : ℕ) where
+module _ {A : Type 0} (test : A → Bool) (l : List A) (i : ℕ) (z : A) where
   -- the rest passes as it does from the next entry on, where this one passes
-  pub every-turn : i < length l → test (l ‼ i) ≡ true → every test (drop (i + 1) l) ≡ every test (drop i l)
+  pub every-turn : i < length l → test (getD l i z) ≡ true → every test (drop (i + 1) l) ≡ every test (drop i l)
   unfolding every
-  every-turn h e = rw (left-next l i nan h, e) refl
+  every-turn h e = rw (left-next l i z h, e) refl
 
-  pub every-fails : i < length l → test (l ‼ i) ≡ false → every test (drop i l) ≡ false
+  pub every-fails : i < length l → test (getD l i z) ≡ false → every test (drop i l) ≡ false
   unfolding every
-  every-fails h e = rw (left-next l i nan h, e) refl
+  every-fails h e = rw (left-next l i z h, e) refl
 
   pub every-done : length l ≤ i → every test (drop i l) ≡ true
   unfolding every

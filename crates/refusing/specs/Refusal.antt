@@ -25,7 +25,7 @@ abbrev pub frame : Float → List Float → List Float → Frame
 frame lf0 spectrum lpf = record { lf0 = lf0; spectrum = spectrum; lpf = lpf }
 
 -- a test that every entry passes
-unfoldable pub every : (Float → Bool) → List Float → Bool
+unfoldable pub every : {A : Type 0} → (A → Bool) → List A → Bool
 every test [] = true
 every test (x ∷ l) = test x && every test l
 

@@ -4,6 +4,7 @@ use mathlib.Core.Path.{_≡_, refl, sym, _∙_}
 use Prim.Native.Nat.{_-_, _≤_}
 use native.Mathlib.Omega.{arith}
 use borrow.Author.Tests.{not-true, not-false}
+use lib.Ieee.{nan}
 use lib.ListN.{length, drop}
 use Rattle.number.specs.Range.{finite}
 use Rattle.refusing.specs.Refusal.{every}
@@ -30,7 +31,7 @@ is-finite-requires : tie.Need-is-finite-requires Inv-loop μ-loop
 is-finite-requires c κs = search needs
 
 returns : tie.Need-returns Inv-loop μ-loop
-returns c = sym (every-fails finite (c .before .before .before .before .before .before .args .values .now) (c .before .before .before .before .loop .i) (omega arith) (sym (c .before .is-finite .ensures) ∙ not-true _ (c .if1 .taken))) ∙ c .before .before .before .before .loop .inv .1
+returns c = sym (every-fails finite (c .before .before .before .before .before .before .args .values .now) (c .before .before .before .before .loop .i) nan (omega arith) (sym (c .before .is-finite .ensures) ∙ not-true _ (c .if1 .taken))) ∙ c .before .before .before .before .loop .inv .1
 
 add-i : tie.Need-add-i Inv-loop μ-loop
 add-i c = search needs
@@ -39,10 +40,10 @@ loop-less : tie.Need-loop-less Inv-loop μ-loop
 loop-less c = search needs
 
 loop-again : tie.Need-loop-again Inv-loop μ-loop
-loop-again c = (omega arith, every-turn finite (c .before .before .before .before .before .before .args .values .now) (c .before .before .before .before .loop .i) (omega arith) (sym (c .before .is-finite .ensures) ∙ not-false _ (c .if1 .left)) ∙ c .before .before .before .before .loop .inv .1)
+loop-again c = (omega arith, every-turn finite (c .before .before .before .before .before .before .args .values .now) (c .before .before .before .before .loop .i) nan (omega arith) (sym (c .before .is-finite .ensures) ∙ not-false _ (c .if1 .left)) ∙ c .before .before .before .before .loop .inv .1)
 
 returns-2 : tie.Need-returns-2 Inv-loop μ-loop
-returns-2 c = sym (every-done finite (c .before .before .before .args .values .now) (c .before .loop .i) (omega arith)) ∙ c .before .loop .inv .1
+returns-2 c = sym (every-done finite (c .before .before .before .args .values .now) (c .before .loop .i) nan (omega arith)) ∙ c .before .loop .inv .1
 
 pub all-finite-spec : {M : Type 1} → statement M
 all-finite-spec =

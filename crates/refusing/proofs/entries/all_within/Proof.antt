@@ -5,7 +5,7 @@ use Prim.Native.Nat.{_-_, _≤_}
 use native.Mathlib.Omega.{arith}
 use borrow.Author.Tests.{not-true, not-false}
 use lib.ListN.{length, drop}
-use lib.Ieee.{ofBits, neg}
+use lib.Ieee.{nan, ofBits, neg}
 use Rattle.refusing.specs.Refusal.{every, small}
 use Rattle.refusing.proofs.EveryLaws.{every-turn, every-fails, every-done}
 use Rattle.refusing.proofs.entries.all_within.Statement.{statement}
@@ -31,7 +31,7 @@ within-requires c κs = search needs
 
 returns : tie.Need-returns Inv-loop μ-loop
 unfolding small ofBits neg
-returns c = sym (every-fails small (c .before .before .before .before .before .before .args .values .now) (c .before .before .before .before .loop .i) (omega arith) (sym (c .before .within .ensures) ∙ not-true _ (c .if1 .taken))) ∙ c .before .before .before .before .loop .inv .1
+returns c = sym (every-fails small (c .before .before .before .before .before .before .args .values .now) (c .before .before .before .before .loop .i) nan (omega arith) (sym (c .before .within .ensures) ∙ not-true _ (c .if1 .taken))) ∙ c .before .before .before .before .loop .inv .1
 
 add-i : tie.Need-add-i Inv-loop μ-loop
 add-i c = search needs
@@ -41,10 +41,10 @@ loop-less c = search needs
 
 loop-again : tie.Need-loop-again Inv-loop μ-loop
 unfolding small ofBits neg
-loop-again c = (omega arith, every-turn small (c .before .before .before .before .before .before .args .values .now) (c .before .before .before .before .loop .i) (omega arith) (sym (c .before .within .ensures) ∙ not-false _ (c .if1 .left)) ∙ c .before .before .before .before .loop .inv .1)
+loop-again c = (omega arith, every-turn small (c .before .before .before .before .before .before .args .values .now) (c .before .before .before .before .loop .i) nan (omega arith) (sym (c .before .within .ensures) ∙ not-false _ (c .if1 .left)) ∙ c .before .before .before .before .loop .inv .1)
 
 returns-2 : tie.Need-returns-2 Inv-loop μ-loop
-returns-2 c = sym (every-done small (c .before .before .before .args .values .now) (c .before .loop .i) (omega arith)) ∙ c .before .loop .inv .1
+returns-2 c = sym (every-done small (c .before .before .before .args .values .now) (c .before .loop .i) nan (omega arith)) ∙ c .before .loop .inv .1
 
 pub all-within-spec : {M : Type 1} → statement M
 all-within-spec =

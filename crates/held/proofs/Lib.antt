@@ -1,0 +1,10 @@
+pub mod HeldLists
+pub mod HeldFresh
+pub mod HeldSources
+pub mod HeldExcitation
+pub mod HeldZero
+pub mod HeldStages
+pub mod HeldFilters
+pub mod HeldStep
+pub mod HeldSpectrum
+pub mod HeldGive

@@ -1,0 +1,1 @@
+// Voices that hold f64s alone: definitions and laws alone, and no code.
