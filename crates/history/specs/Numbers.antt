@@ -48,6 +48,14 @@ nothingLeft = 10
 abbrev pub noiseDry : ℕ
 noiseDry = 11
 
+-- save: the buffer is shorter than the records
+abbrev pub recordsLonger : ℕ
+recordsLonger = 12
+
+-- restore: the records are not acceptable
+abbrev pub recordsWrong : ℕ
+recordsWrong = 13
+
 -- whole frame: the sample buffer is shorter than fperiod
 abbrev pub bufferShort : ℕ
 bufferShort = 14

@@ -24,6 +24,12 @@ sets-append (x ∷ xs) ys s k =
     let on : k + suc (length xs) ≡ suc k + length xs = omega arith in
     rw on (sets-append xs ys (set s k x) (suc k))
 
+-- a whole list stored anew
+pub sets-all {ℓ} : {A : Type ℓ} (vs xs : List A) → length vs ≡ length xs → sets vs 0 xs ≡ xs
+sets-all vs xs h =
+    let none : drop (0 + length xs) vs ≡ [] = left-none vs (0 + length xs) (omega arith) in
+    sets-eq xs vs 0 (omega arith) ∙ rw none (append-nil xs)
+
 -- a number put where there is room
 put-sets : (s : List ℕ) (at v : ℕ) → at + 8 ≤ length s → putAt s at v ≡ sets s at (bytesOf 8 v)
 put-sets s at v h = put-there s at v (le-leb (at + 8) (length s) h) ∙ sym (written s at 8 v h)
@@ -93,10 +99,7 @@ module _ (bytes : List ℕ) (n i : ℕ) (h : i < n) where
 
 -- all read: they are the values
 pub values-end : (bytes vs : List ℕ) (n : ℕ) → length vs ≡ n → sets vs 0 (valuesIn n bytes) ≡ valuesIn n bytes
-values-end bytes vs n h =
-    let fits : 0 + length (valuesIn n bytes) ≤ length vs = rw (length-values n bytes) (omega arith) in
-    let none : drop (0 + length (valuesIn n bytes)) vs ≡ [] = left-none vs (0 + length (valuesIn n bytes)) (rw (length-values n bytes) (omega arith)) in
-    sets-eq (valuesIn n bytes) vs 0 fits ∙ rw none (append-nil (valuesIn n bytes))
+values-end bytes vs n h = sets-all vs (valuesIn n bytes) (h ∙ sym (length-values n bytes))
 
 module _ (bytes : List ℕ) (n i : ℕ) (h : n ≤ i) where
   none-left : n - i ≡ 0

@@ -25,7 +25,7 @@ formsKept nlpf ws =
     every oneForm (between 5 8 ws)
     && every oneForm (between 9 12 ws)
     && every oneForm (between 15 (noiseAt nlpf) ws)
-    && every oneForm (between (queueAt nlpf) (length ws) ws)
+    && every oneForm (drop (queueAt nlpf) ws)
 
 -- log gain and first flag 0 or 1
 abbrev pub flagsKept : List ℕ → Bool

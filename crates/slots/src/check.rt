@@ -2,13 +2,12 @@
 ghost use mathlib.Core.Path.{_≡_};
 ghost use Prim.Native.Nat.{_+_, _≤_};
 ghost use lib.ListN.{length};
-ghost use Rattle.number.specs.Bits.{otherNan};
 ghost use Rattle.refusing.specs.Refusal.{every};
 ghost use Rattle.slots.specs.Slots.{configurationIn};
-ghost use Rattle.slots.specs.Sound.{oneForm, between, formsKept, sound};
-use configuration::Configuration;
+ghost use Rattle.slots.specs.Sound.{oneForm, formsKept, sound};
 use crate::LINE_AT;
 use crate::count_of;
+use configuration::Configuration;
 use number::bits::bits_of;
 use number::bits::float_of;
 use voice::usable;
@@ -41,14 +40,13 @@ fn one_form(bits: u64) -> bool
     bits_of(float_of(bits)) == bits
 }
 
-// Whether all slots from one on, up to another, have the one form.
-fn forms_kept(slots: &[u64], from: usize, to: usize) -> bool
-    requires { ⌜ (from ≤ to) × (to ≤ length (now slots)) ⌝ }
-    ensures { λ r. ⌜ r ≡ every oneForm (between from to (now (slots .entry))) ⌝ }
+// Whether all of them have the one form.
+fn forms_kept(values: &[u64]) -> bool
+    ensures { λ r. ⌜ r ≡ every oneForm (now (values .entry)) ⌝ }
 {
-    let mut i = from;
-    while i < to {
-        if !one_form(slots[i]) {
+    let mut i = 0;
+    while i < values.len() {
+        if !one_form(values[i]) {
             return false;
         }
         i += 1;
@@ -56,16 +54,17 @@ fn forms_kept(slots: &[u64], from: usize, to: usize) -> bool
     true
 }
 
-// Whether all floats have the one form.
+// Whether all floats have it.
 fn all_forms_kept(slots: &[u64], nlpf: usize) -> bool
     requires { ⌜ 19 + nlpf + nlpf + 2 ≤ length (now slots) ⌝ }
     ensures { λ r. ⌜ r ≡ formsKept nlpf (now (slots .entry)) ⌝ }
 {
     let noise_at = LINE_AT + nlpf + nlpf;
-    forms_kept(slots, 5, 8)
-        & forms_kept(slots, 9, 12)
-        & forms_kept(slots, 15, noise_at)
-        & forms_kept(slots, noise_at + 2, slots.len())
+    let queue_at = noise_at + 2;
+    forms_kept(&slots[5..8])
+        & forms_kept(&slots[9..12])
+        & forms_kept(&slots[15..noise_at])
+        & forms_kept(&slots[queue_at..])
 }
 
 // Count, form of the NaNs, flags, and the rules that an idle voice breaks.
@@ -82,7 +81,13 @@ pub fn is_sound(slots: &[u64]) -> bool
     }
     let flags = (slots[3] <= 1) & (slots[14] <= 1);
     let used = slots[LINE_AT + c.nlpf + c.nlpf + 1];
-    usable(c, slots[12], slots[13] as usize, slots[14] != 0, used as usize)
+    usable(
+        c,
+        slots[12],
+        slots[13] as usize,
+        slots[14] != 0,
+        used as usize,
+    )
         & flags
         & all_forms_kept(slots, c.nlpf)
 }

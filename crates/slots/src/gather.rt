@@ -80,7 +80,11 @@ fn put_excitation(voice: Voice, slots: &mut [u64])
     let queue = random.queue;
     put_floats(slots, LINE_AT, &line[0..nlpf]);
     put_floats(slots, LINE_AT + nlpf, &lpf[0..nlpf]);
-    put_numbers(slots, LINE_AT + nlpf + nlpf, &[random.next, random.used as u64]);
+    put_numbers(
+        slots,
+        LINE_AT + nlpf + nlpf,
+        &[random.next, random.used as u64],
+    );
     put_floats(slots, LINE_AT + nlpf + nlpf + 2, &queue);
 }
 

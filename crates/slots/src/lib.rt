@@ -12,6 +12,9 @@ use configuration::Configuration;
 // The slots of a voice of 64 coefficients and 64 taps at stage 8.
 pub const MOST_SLOTS: usize = 917;
 
+// The slots of a configuration.
+pub const CONFIGURATION_SLOTS: usize = 12;
+
 // Where the delay line begins: after the configuration, the counters and the pulse train.
 const LINE_AT: usize = 19;
 

@@ -36,5 +36,11 @@ pub const NOTHING_LEFT: u64 = 10;
 // Draw: the noise is dry.
 pub const NOISE_DRY: u64 = 11;
 
+// Save: the buffer is shorter than the records.
+pub const RECORDS_LONGER: u64 = 12;
+
+// Restore: the records are not acceptable.
+pub const RECORDS_WRONG: u64 = 13;
+
 // Whole frame: the sample buffer is shorter than fperiod.
 pub const BUFFER_SHORT: u64 = 14;

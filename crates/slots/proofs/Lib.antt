@@ -1,0 +1,4 @@
+pub mod CountLaws
+pub mod GatherLaws
+pub mod ReadLaws
+pub mod SoundLaws

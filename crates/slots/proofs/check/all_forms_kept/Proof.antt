@@ -1,0 +1,102 @@
+-- `all_forms_kept` meets its contract: four parts. Assumes nothing.
+use borrow.Author.Needs.{needs}
+use Rattle.slots.proofs.check.all_forms_kept.Statement.{statement}
+use Rattle.slots.proofs.check.all_forms_kept.Tie as tie
+use mathlib.Core.Path.{_≡_, refl, _∙_, ap}
+use Prim.Native.Nat.{_+_}
+use lib.ListN.{drop}
+use Rattle.refusing.specs.Refusal.{every}
+use Rattle.slots.specs.Sound.{oneForm}
+use Rattle.slots.proofs.ReadLaws.{to-the-end}
+
+add-noise-at : tie.Need-add-noise-at
+add-noise-at c = search needs
+
+add-noise-at-2 : tie.Need-add-noise-at-2
+add-noise-at-2 c = search needs
+
+add-queue-at : tie.Need-add-queue-at
+add-queue-at c = search needs
+
+sub-forms-kept : tie.Need-sub-forms-kept
+sub-forms-kept c = search needs
+
+part-forms-kept-start : tie.Need-part-forms-kept-start
+part-forms-kept-start c = search needs
+
+part-forms-kept-end : tie.Need-part-forms-kept-end
+part-forms-kept-end c = search needs
+
+forms-kept-requires : tie.Need-forms-kept-requires
+forms-kept-requires c κs = search needs
+
+sub-forms-kept-2 : tie.Need-sub-forms-kept-2
+sub-forms-kept-2 c = search needs
+
+part-forms-kept-start-2 : tie.Need-part-forms-kept-start-2
+part-forms-kept-start-2 c = search needs
+
+part-forms-kept-end-2 : tie.Need-part-forms-kept-end-2
+part-forms-kept-end-2 c = search needs
+
+forms-kept-requires-2 : tie.Need-forms-kept-requires-2
+forms-kept-requires-2 c κs = search needs
+
+sub-forms-kept-3 : tie.Need-sub-forms-kept-3
+sub-forms-kept-3 c = search needs
+
+part-forms-kept-start-3 : tie.Need-part-forms-kept-start-3
+part-forms-kept-start-3 c = search needs
+
+part-forms-kept-end-3 : tie.Need-part-forms-kept-end-3
+part-forms-kept-end-3 c = search needs
+
+forms-kept-requires-3 : tie.Need-forms-kept-requires-3
+forms-kept-requires-3 c κs = search needs
+
+mul-forms-kept : tie.Need-mul-forms-kept
+mul-forms-kept c = search needs
+
+sub-forms-kept-4 : tie.Need-sub-forms-kept-4
+sub-forms-kept-4 c = search needs
+
+part-forms-kept-start-4 : tie.Need-part-forms-kept-start-4
+part-forms-kept-start-4 c = search needs
+
+part-forms-kept-end-4 : tie.Need-part-forms-kept-end-4
+part-forms-kept-end-4 c = search needs
+
+forms-kept-requires-4 : tie.Need-forms-kept-requires-4
+forms-kept-requires-4 c κs = search needs
+
+returns : tie.Need-returns
+returns c =
+    let queue = 19 + c .before .before .before .before .before .before .before .before .before .args .nlpf + c .before .before .before .before .before .before .before .before .before .args .nlpf + 2 in
+    let last : c .forms-kept4 .result ≡ every oneForm (drop queue (c .before .before .before .before .before .before .before .before .before .args .slots .now)) = c .forms-kept4 .ensures ∙ ap (every oneForm) (to-the-end (c .before .before .before .before .before .before .before .before .before .args .slots .now) queue) in
+    rw (c .before .before .before .before .before .before .forms-kept .ensures, c .before .before .before .before .forms-kept2 .ensures, c .before .before .forms-kept3 .ensures, last) refl
+
+pub all-forms-kept-spec : {M : Type 1} → statement M
+all-forms-kept-spec =
+    tie.close
+    (tie.spec
+    add-noise-at
+    add-noise-at-2
+    add-queue-at
+    sub-forms-kept
+    part-forms-kept-start
+    part-forms-kept-end
+    forms-kept-requires
+    sub-forms-kept-2
+    part-forms-kept-start-2
+    part-forms-kept-end-2
+    forms-kept-requires-2
+    sub-forms-kept-3
+    part-forms-kept-start-3
+    part-forms-kept-end-3
+    forms-kept-requires-3
+    mul-forms-kept
+    sub-forms-kept-4
+    part-forms-kept-start-4
+    part-forms-kept-end-4
+    forms-kept-requires-4
+    returns)

@@ -1,0 +1,73 @@
+-- `put_numbers` meets its contract: what is still to be stored. Assumes nothing.
+use borrow.Author.Needs.{needs}
+use Rattle.slots.proofs.gather.put_numbers.Statement.{statement}
+use Rattle.slots.proofs.gather.put_numbers.Tie as tie
+use mathlib.Core.Path.{_≡_, refl, _∙_}
+use Prim.Native.Nat.{_-_, _+_, _≤_}
+use native.Mathlib.Omega.{arith}
+use lib.ListN.{length, drop, length-set}
+use lib.Seq.{sets}
+use Rattle.slots.proofs.GatherLaws.{numbers-turn, numbers-end}
+
+abbrev Inv-loop : tie.InvT-loop
+Inv-loop slots₀ at values i₀ slots i = (i ≤ length values) × (length slots ≡ length slots₀) × (sets slots (at + i) (drop i values) ≡ sets slots₀ at values)
+
+abbrev μ-loop : tie.MeasureT-loop
+μ-loop slots₀ at values i₀ slots i = length values - i
+
+loop-holds : tie.Need-loop-holds Inv-loop μ-loop
+loop-holds c =
+    let all : c .args .at + 0 ≡ c .args .at = omega arith in
+    (omega arith, refl, rw all refl)
+
+mul-slots : tie.Need-mul-slots Inv-loop μ-loop
+mul-slots c = search needs
+
+shared-slice-read-slots : tie.Need-shared-slice-read-slots Inv-loop μ-loop
+shared-slice-read-slots c = search needs
+
+add-slots : tie.Need-add-slots Inv-loop μ-loop
+add-slots c = search needs
+
+mul-slots-2 : tie.Need-mul-slots-2 Inv-loop μ-loop
+mul-slots-2 c = search needs
+
+slice-write-slots : tie.Need-slice-write-slots Inv-loop μ-loop
+slice-write-slots c = search needs
+
+add-i : tie.Need-add-i Inv-loop μ-loop
+add-i c = search needs
+
+loop-less : tie.Need-loop-less Inv-loop μ-loop
+loop-less c = search needs
+
+loop-again : tie.Need-loop-again Inv-loop μ-loop
+loop-again c =
+    let slots = c .before .before .loop .slots in
+    let at = c .before .before .before .args .at in
+    let i = c .before .before .loop .i in
+    (omega arith, length-set slots (at + i) _ ∙ c .before .before .loop .inv .1, numbers-turn slots at i (c .before .before .before .args .values .now) (omega arith) ∙ c .before .before .loop .inv .2)
+
+same-length : tie.Need-same-length Inv-loop μ-loop
+same-length c = search needs
+
+returns : tie.Need-returns Inv-loop μ-loop
+returns c = numbers-end (c .before .loop .slots) (c .before .before .args .at) (c .before .loop .i) (c .before .before .args .values .now) (omega arith) ∙ c .before .loop .inv .2
+
+pub put-numbers-spec : {M : Type 1} → statement M
+put-numbers-spec =
+    tie.close
+    (tie.spec
+    Inv-loop
+    μ-loop
+    loop-holds
+    mul-slots
+    shared-slice-read-slots
+    add-slots
+    mul-slots-2
+    slice-write-slots
+    add-i
+    loop-less
+    loop-again
+    same-length
+    returns)
