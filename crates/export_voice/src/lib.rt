@@ -4,8 +4,10 @@ ghost use Rattle.voice.specs.Open.{Opens};
 ghost use Rattle.giving.specs.Give.{Gives};
 ghost use Rattle.drawing.specs.Draw.{Draws};
 ghost use Rattle.whole.specs.Whole.{Renders};
+ghost use Rattle.rest.specs.Rest.{Saves, Restores};
 use configuration::Configuration;
 use drawing::Drawn;
+use rest::Saved;
 use voice::Answered;
 use voice::Voice;
 
@@ -42,4 +44,18 @@ pub extern "C" fn kipawnore_whole_frame(
     ensures { λ r. ⌜ Renders (frame lf0 (now (spectrum .entry)) (now (lpf .entry))) voice (now (out .entry)) start r (now (out .exit)) ⌝ }
 {
     whole::whole_frame(voice, lf0, spectrum, lpf, out, start)
+}
+
+#[no_mangle]
+pub extern "C" fn kipawnore_save(voice: Voice, out: &mut [u8]) -> Saved
+    ensures { λ r. ⌜ Saves voice (now (out .entry)) r (now (out .exit)) ⌝ }
+{
+    rest::save(voice, out)
+}
+
+#[no_mangle]
+pub extern "C" fn kipawnore_restore(voice: Voice, bytes: &[u8]) -> Answered
+    ensures { λ r. ⌜ Restores (now (bytes .entry)) voice r ⌝ }
+{
+    rest::restore(voice, bytes)
 }
