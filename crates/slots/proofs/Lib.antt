@@ -2,3 +2,12 @@ pub mod CountLaws
 pub mod GatherLaws
 pub mod ReadLaws
 pub mod SoundLaws
+pub mod StandLaws
+pub mod StandParts
+pub mod MadeLaws
+pub mod AgainLaws
+pub mod PartLaws
+pub mod StayLaws
+pub mod FilterLaws
+pub mod FormLaws
+pub mod BackLaws

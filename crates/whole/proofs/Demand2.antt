@@ -50,7 +50,7 @@ none-applies f v p e i = (rw (e, i) refl, rw i refl)
 
 module _ (f : Frame) (v : Voice) where
   -- where nothing refuses the frame, no earlier row does and preparing is inside
-  earlier-none : refusal f v ≡ 0 → earlier f v ≡ 0
+  pub earlier-none : refusal f v ≡ 0 → earlier f v ≡ 0
   unfolding refusal
   earlier-none e = go (earlier f v) refl
     where

@@ -1,0 +1,53 @@
+-- A sample through the filter of the stages from 1 on changes no more than a row for each. Assumes nothing.
+use mathlib.Core.Path.{_≡_, refl, ap, _∙_}
+use mathlib.Core.List.{List, [], _∷_}
+use Prim.Native.Nat.{ℕ, zero, suc, _+_, _-_, _*_, _≤_}
+use native.Mathlib.Nat.{mul-le-mul, le-refl}
+use native.Mathlib.Omega.{arith}
+use lib.ListN.{length, length-set}
+use lib.Ieee.{Float}
+use Rattle.number.specs.F64.{_⊗_, _‼_}
+use Rattle.number.specs.Lists.{row}
+use Rattle.number.proofs.Lists.{length-row}
+use Rattle.mglsa.specs.Mglsa.{Passed, passed, warpAt, warps, warped, pushed, dffOf, stageOf, stagesFrom, dfOf}
+use Rattle.stream.proofs.PastLaws.{Past, past-same, past-then, past-put}
+
+length-pushed : (first : Float) (d : List Float) → length (pushed first d) ≡ length d
+unfolding pushed
+length-pushed first [] = refl
+length-pushed first (x ∷ d) = ap suc (length-pushed x d)
+
+module _ (alpha : Float) (c : List Float) where
+  length-warps : (n i : ℕ) (w : Passed) → length (warps alpha c n i w .d) ≡ length (w .d)
+  unfolding warps warpAt
+  length-warps zero i w = refl
+  length-warps (suc n) i w = length-warps n (i + 1) (warpAt alpha c i w) ∙ length-set (w .d) i _
+
+  length-stage : (s : Passed) → length (dffOf alpha c s .d) ≡ length (s .d)
+  unfolding dffOf warped
+  length-stage s = length-pushed _ (warped alpha c (s .d) .d) ∙ length-warps (length (s .d) - 2) 1 (passed (s .d) (s .d ‼ 0 ⊗ c ‼ 1))
+
+  module _ (stages : ℕ) where
+    -- stage i turns row i
+    one-stage : (i : ℕ) (s : Passed) → i + 1 ≤ stages → stages * length c ≤ length (s .d) → Past (stages * length c) (s .d) (stageOf alpha c i s .d)
+    unfolding stageOf
+    one-stage i s h l =
+        let n = length c in
+        let from = i * n in
+        let to = from + n in
+        let most : (i + 1) * n ≤ stages * n = mul-le-mul h (le-refl n) in
+        let p = passed (row from to (s .d)) (s .x) in
+        let size : length (dffOf alpha c p .d) ≡ to - from = length-stage p ∙ length-row from to (s .d) (omega arith) (omega (arith, most, l)) in
+        past-put (stages * n) (s .d) from to (dffOf alpha c p .d) (omega arith) (omega (arith, most)) l size
+
+    from-stage : (n i : ℕ) (s : Passed) → i + n ≤ stages → stages * length c ≤ length (s .d) → Past (stages * length c) (s .d) (stagesFrom alpha c n i s .d)
+    unfolding stagesFrom
+    from-stage zero i s h l = past-same (stages * length c) (s .d)
+    from-stage (suc n) i s h l =
+        let now = one-stage i s (omega arith) l in
+        let t = stageOf alpha c i s in
+        past-then (stages * length c) (s .d) (t .d) (stagesFrom alpha c n (i + 1) t .d) now (from-stage n (i + 1) t (omega arith) (omega (arith, l, now .size)))
+
+    pub stages-past : (d : List Float) (x : Float) → stages * length c ≤ length d → Past (stages * length c) d (dfOf alpha stages c d x .state)
+    unfolding dfOf
+    stages-past d x l = from-stage stages 0 (passed d x) (omega arith) l

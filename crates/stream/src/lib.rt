@@ -1,0 +1,1 @@
+// What frames and samples keep of a voice: laws alone, and no code.
