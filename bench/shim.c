@@ -32,6 +32,7 @@ typedef struct {
 
 typedef struct { Word number; Voice voice; } Answered;
 typedef struct { Word number, made; Voice voice; } Drawn;
+typedef struct { Word number, bytes; } Saved;
 
 _Static_assert(sizeof(Configuration) == 96 && sizeof(Voice) == 10552, "the sizes that src/shim.rs has too");
 
@@ -47,6 +48,9 @@ Answered *kipawnore_give(Answered *after, Voice voice, double lf0, const double 
 Drawn *kipawnore_draw(Drawn *after, Voice voice, double *out, Word nout, Word start);
 Drawn *kipawnore_whole_frame(Drawn *after, Voice voice, double lf0, const double *spectrum, Word nspectrum, const double *lpf, Word nlpf,
                              double *out, Word nout, Word start);
+Answered *kipawnore_restore(Answered *after, Voice voice, const unsigned char *bytes, Word nbytes);
+// Two words come back in registers.
+Saved kipawnore_save(Voice voice, unsigned char *out, Word nout);
 
 void shim_start(Pulse *pulse, _Bool voiced, double period, Word fperiod) {
     Pulse after;
@@ -97,5 +101,18 @@ Word shim_whole_frame(Voice *voice, double lf0, const double *spectrum, Word nsp
     kipawnore_whole_frame(&after, *voice, lf0, spectrum, nspectrum, lpf, nlpf, out, nout, start);
     *voice = after.voice;
     *made = after.made;
+    return after.number;
+}
+
+Word shim_save(const Voice *voice, unsigned char *out, Word nout, Word *bytes) {
+    Saved saved = kipawnore_save(*voice, out, nout);
+    *bytes = saved.bytes;
+    return saved.number;
+}
+
+Word shim_restore(Voice *voice, const unsigned char *bytes, Word nbytes) {
+    Answered after;
+    kipawnore_restore(&after, *voice, bytes, nbytes);
+    *voice = after.voice;
     return after.number;
 }

@@ -2,7 +2,7 @@
 // library, run under an emulator. It reads requests on standard input and answers each on standard
 // output: operation, count, then count inputs (pairs for multiply, add and the powers); count answers.
 // A stretch, a start and an end of the excitation, the calls on spectra (bridge_spectrum.c), those of the filters
-// (bridge_filter.c) and those of the voices (bridge_voice.c) come one a request: the count is that of the words.
+// (bridge_filter.c) and those of the voices (bridge_voice.c, bridge_rest.c) come one a request: the count is that of the words.
 // Every word is 8 bytes, little-endian. The driver's side is src/bridge.rs.
 #include <stddef.h>
 #include <stdint.h>

@@ -2,49 +2,8 @@
 // slot; to open the configuration, to write the voice; to give, to draw and for a whole frame lf0, the lengths of spectrum,
 // taps and buffer, the start, then the three arrays. The answers: to open the number; to read the voice; to give, to draw and
 // for a whole frame the number, the samples made (0 to give), the buffer after it.
-#include <stdbool.h>
-#include <stddef.h>
-#include <stdint.h>
+#include "bridge_voice.h"
 
-typedef struct { double pitch, counter, increment, end_pitch; } Pulse;
-typedef struct { uint64_t next; size_t used; double queue[64]; } Random;
-typedef struct { double d11[6], d12[6], d21[384], d22[6]; } Zero;
-typedef struct { double d[512]; } Nonzero;
-typedef struct {
-    size_t nmcp, nlpf;
-    uint64_t stage;
-    bool log_gain;
-    uint64_t rate;
-    double alpha, beta, volume;
-    size_t fperiod;
-    double nodata, low, high;
-} Configuration;
-typedef struct {
-    Configuration configuration;
-    uint64_t meter;
-    size_t left;
-    bool first;
-    Pulse pulse;
-    double line[64], lpf[64];
-    Random random;
-    double coefficients[64], increments[64], targets[64];
-    Zero zero;
-    Nonzero nonzero;
-} Voice;
-typedef struct { uint64_t number; Voice voice; } Answered;
-typedef struct { uint64_t number; size_t made; Voice voice; } Drawn;
-
-Answered kipawnore_open(Configuration configuration);
-Answered kipawnore_give(Voice voice, double lf0, const double *spectrum, size_t nspectrum, const double *lpf, size_t nlpf);
-Drawn kipawnore_draw(Voice voice, double *out, size_t nout, size_t start);
-Drawn kipawnore_whole_frame(Voice voice, double lf0, const double *spectrum, size_t nspectrum, const double *lpf, size_t nlpf,
-                            double *out, size_t nout, size_t start);
-
-void *memcpy(void *to, const void *from, size_t size);
-_Noreturn void leave(int status);
-
-enum { GIVE, DRAW, WHOLE_FRAME, OPEN, READ, WRITE };
-enum { SLOTS = 4, ROOM = 1 << 14, VOICE_WORDS = sizeof(Voice) / 8 };
 // The words of a voice that hold a flag: the rest of such a word is nobody's.
 enum { LOG_GAIN = offsetof(Configuration, log_gain) / 8, FIRST = offsetof(Voice, first) / 8 };
 
@@ -113,6 +72,7 @@ size_t voice(const uint64_t *inputs, uint64_t *answers) {
         case OPEN: return open_voice(voice, words, answers);
         case READ: return read_voice(voice, answers);
         case WRITE: write_voice(voice, words); return 0;
+        case SAVE: case RESTORE: case CUT: return rest(what, voices, inputs[1], words, answers);
         default: return call(what, voice, words, answers); // GIVE, DRAW, WHOLE_FRAME
     }
 }

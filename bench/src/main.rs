@@ -19,6 +19,8 @@ mod our_filter;
 mod parts;
 mod preparations;
 mod preparing_calls;
+mod rests;
+mod rows;
 mod shim;
 mod spectra;
 mod stretches;
@@ -29,7 +31,8 @@ mod whole_frames;
 use cases::Case;
 use generator::Generator;
 use inputs::COUNT;
-use measure::{ROUNDS, STRETCH, Times, measure};
+use measure::{ROUNDS, STRETCH, measure};
+use rows::{print_head, print_row};
 use std::process::ExitCode;
 
 const SEED: u64 = 1;
@@ -59,8 +62,11 @@ fn main() -> ExitCode {
             "for this processor the pinned filter of stage 0 is built with fused multiply-add, ours is not"
         );
     }
-    let tables = tables(&mut Generator::new(SEED));
-    let done = tables.iter().all(print_table) && breakdown::print(&tables[3].cases);
+    let random = &mut Generator::new(SEED);
+    let tables = tables(random);
+    let done = tables.iter().all(print_table)
+        && breakdown::print(&tables[3].cases)
+        && rests::print(random);
     ExitCode::from(u8::from(!done))
 }
 
@@ -91,23 +97,14 @@ fn tables(random: &mut Generator) -> [Table; 4] {
 
 /// Measures and prints case by case. False where the ways of one do not make the same.
 fn print_table(table: &Table) -> bool {
-    println!(
-        "\n{}\n{:13} {:26} {:14} {:>8} {:>8} {:>7} {:>11} {:>13}",
-        table.title,
-        "function",
-        "inputs",
-        "way",
-        "best",
-        "median",
-        "noise",
-        "ratio best",
-        "ratio median"
-    );
+    print_head(&table.title);
     table.cases.iter().all(|case| {
         let agree = case.ways_agree();
         if agree {
-            let unit = case.count as f64 * table.unit;
-            print_rows(case, &measure(&case.passes(), unit));
+            let times = measure(&case.passes(), case.count as f64 * table.unit);
+            for (way, own) in case.variants.iter().zip(&times) {
+                print_row(case.function, &case.set, way.name, own, &times[0]);
+            }
         } else {
             eprintln!(
                 "bench: {} over {}: the sums of the results differ too much, so times say nothing",
@@ -116,28 +113,4 @@ fn print_table(table: &Table) -> bool {
         }
         agree
     })
-}
-
-fn print_rows(case: &Case, times: &[Times]) {
-    let ours = &times[0];
-    for (way, own) in case.variants.iter().zip(times) {
-        print!(
-            "{:13} {:26} {:14} {:8.2} {:8.2} {:7.2}",
-            case.function,
-            case.set,
-            way.name,
-            own.best,
-            own.median,
-            own.median / own.best
-        );
-        if way.name == "ours" {
-            println!();
-        } else {
-            println!(
-                " {:11.2} {:13.2}",
-                ours.best / own.best,
-                ours.median / own.median
-            );
-        }
-    }
 }

@@ -74,6 +74,8 @@ unsafe extern "C" {
         start: usize,
         made: &mut usize,
     ) -> u64;
+    fn shim_save(voice: &Voice, out: *mut u8, nout: usize, bytes: &mut usize) -> u64;
+    fn shim_restore(voice: &mut Voice, bytes: *const u8, nbytes: usize) -> u64;
 }
 
 /// The excitation of a fresh voice.
@@ -114,8 +116,13 @@ impl Excitation {
 }
 
 impl Voice {
+    /// All zeros, which no call but restore accepts.
+    pub fn idle() -> Self {
+        Self { words: [0; 1319] }
+    }
+
     pub fn open(configuration: &Configuration) -> Self {
-        let mut voice = Self { words: [0; 1319] };
+        let mut voice = Self::idle();
         assert_eq!(shim_open(&mut voice, configuration), 0);
         voice
     }
@@ -154,5 +161,20 @@ impl Voice {
             )
         };
         assert_eq!((number, made), (0, out.len()));
+    }
+
+    /// Saves into the front of a buffer, and gives the number of bytes.
+    pub fn save(&self, out: &mut [u8]) -> usize {
+        let mut bytes = 0;
+        // SAFETY: the pointer goes with the length of its slice.
+        let number = unsafe { shim_save(self, out.as_mut_ptr(), out.len(), &mut bytes) };
+        assert_eq!(number, 0);
+        bytes
+    }
+
+    pub fn restore(&mut self, bytes: &[u8]) {
+        // SAFETY: the pointer goes with the length of its slice.
+        let number = unsafe { shim_restore(self, bytes.as_ptr(), bytes.len()) };
+        assert_eq!(number, 0);
     }
 }

@@ -2,7 +2,8 @@
 
 use crate::excitation_structs::Pulse;
 use crate::filter;
-use crate::ours::Operation;
+use crate::ours::{BLOCK, Operation};
+use crate::rest::{Cut, CutOutcome, Saved, byte_words};
 use crate::spectrum;
 use crate::stretches::{Outcome, Request};
 use crate::voice;
@@ -29,6 +30,9 @@ enum Access {
     Open = 3,
     Read = 4,
     Write = 5,
+    Save = 6,
+    Restore = 7,
+    Cut = 8,
 }
 
 pub struct Bridge {
@@ -104,8 +108,35 @@ impl Bridge {
         Voice::read(&mut words.into_iter()).expect("words enough")
     }
 
-    pub fn write_voice(&mut self, slot: usize, voice: &Voice) {
-        self.voice(Access::Write as u64, slot, &voice.words(), 0);
+    pub fn write_voice(&mut self, slot: usize, words: &[u64]) {
+        self.voice(Access::Write as u64, slot, words, 0);
+    }
+
+    pub fn save_voice(&mut self, slot: usize, buffer: &[u8]) -> Saved {
+        let answers = 2 + buffer.len().div_ceil(8);
+        let words = self.voice(Access::Save as u64, slot, &byte_words(buffer), answers);
+        Saved::read(&mut words.into_iter(), buffer.len()).expect("words enough")
+    }
+
+    pub fn restore_voice(&mut self, slot: usize, bytes: &[u8]) -> u64 {
+        self.voice(Access::Restore as u64, slot, &byte_words(bytes), 1)[0]
+    }
+
+    /// As many cuts in one request as there is room for their answers.
+    pub fn cut_voice(&mut self, slot: usize, cuts: &[Cut]) -> Vec<CutOutcome> {
+        let most = cuts.iter().map(Cut::answers).max().unwrap_or(1);
+        let mut outcomes = Vec::new();
+        for cuts in cuts.chunks(BLOCK / most) {
+            let mut words = vec![cuts.len() as u64];
+            words.extend(cuts.iter().flat_map(Cut::words));
+            let answers = cuts.iter().map(Cut::answers).sum();
+            let mut words = self
+                .voice(Access::Cut as u64, slot, &words, answers)
+                .into_iter();
+            let read = |cut| CutOutcome::read(&mut words, cut).expect("words enough");
+            outcomes.extend(cuts.iter().map(read));
+        }
+        outcomes
     }
 
     fn voice(&mut self, what: u64, slot: usize, words: &[u64], answers: usize) -> Vec<u64> {

@@ -1,6 +1,9 @@
 //! Our voices against the Rust's `synthesize`, whose functions are answered by ours: numbers, samples, buffers and whole
 //! voices, bit for bit, all NaNs taken as one.
 
+use crate::compare_rest::any_voices;
+use crate::compare_rest_cuts::{many_cuts, streams};
+use crate::compare_rest_damage::damaged;
 use crate::compare_voice_open::{limits, near_limits};
 use crate::compare_voice_states::{idle, meters, states};
 use crate::frames::{FrameSet, Settings, announcement};
@@ -41,6 +44,9 @@ pub fn run(ours: &Rc<RefCell<Ours>>, seed: u64, folder: Option<&Path>) -> Result
     }
     for set in folder.map_or(Ok(Vec::new()), announcement)? {
         good &= announced(&functions, set, random);
+    }
+    for part in [any_voices, streams, many_cuts, damaged] {
+        good &= part(&functions, &mut Generator::new(seed));
     }
     Ok(good)
 }

@@ -105,7 +105,7 @@ pub fn limits(functions: &Functions, random: &mut Generator) -> bool {
 }
 
 /// What is set in which slots, and the number that it leads to.
-fn each_alone() -> Vec<(Vec<(usize, u64)>, u64)> {
+pub fn each_alone() -> Vec<(Vec<(usize, u64)>, u64)> {
     let mut all = Vec::new();
     for (slot, kept, broken) in WHOLE {
         all.extend(kept.iter().map(|&word| (vec![(slot, word)], DONE)));

@@ -3,6 +3,7 @@
 
 use crate::generator::Generator;
 use crate::ours::SLOTS;
+use crate::rest_records::MOST_BYTES;
 use crate::spectrum::OUTSIDE;
 use crate::voice::Call;
 use crate::voice_frames::{buffer, frames};
@@ -93,11 +94,12 @@ pub fn idle(functions: &Functions, random: &mut Generator) -> bool {
         }
     }
     let all: &[u64] = &[IDLE];
-    let met = tally.has_met(&[("give", all), ("whole frame", all), ("draw", all)]);
+    let calls = ["give", "whole frame", "draw", "save"];
+    let met = tally.has_met(&calls.map(|call| (call, all)));
     tally.finish() && met
 }
 
-/// A give, a draw and a whole frame that would do for the configuration.
+/// A give, a draw and a whole frame that would do for the configuration, and two saves, into room for any voice and into none.
 fn every_call(
     mut sides: Sides,
     configuration: &Configuration,
@@ -113,6 +115,8 @@ fn every_call(
         tally,
         &Call::whole_frame(frames.remove(0), second, second_start),
     );
+    sides.save(tally, MOST_BYTES);
+    sides.save(tally, 0);
 }
 
 /// Voices whose meter stands a few frames before the last one that it can count, or at it: then 8.

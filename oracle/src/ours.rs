@@ -8,6 +8,7 @@ use crate::excitation_structs::Pulse;
 use crate::filter;
 #[cfg(feature = "linked")]
 use crate::linked;
+use crate::rest::{Cut, CutOutcome, Saved};
 use crate::spectrum;
 #[cfg(feature = "linked")]
 use crate::spectrum_calls;
@@ -137,10 +138,41 @@ impl Ours {
     }
 
     pub fn set_voice(&mut self, slot: usize, voice: &Voice) {
+        self.set_words(slot, &voice.words());
+    }
+
+    /// Puts the voice of these words into a slot, its NaNs as they are.
+    pub fn set_words(&mut self, slot: usize, words: &[u64]) {
         match self {
             #[cfg(feature = "linked")]
-            Ours::Linked(voices) => voices.write(slot, voice),
-            Ours::Bridge(bridge) => bridge.write_voice(slot, voice),
+            Ours::Linked(voices) => voices.write(slot, words),
+            Ours::Bridge(bridge) => bridge.write_voice(slot, words),
+        }
+    }
+
+    pub fn save(&mut self, slot: usize, buffer: &[u8]) -> Saved {
+        match self {
+            #[cfg(feature = "linked")]
+            Ours::Linked(voices) => voices.save(slot, buffer),
+            Ours::Bridge(bridge) => bridge.save_voice(slot, buffer),
+        }
+    }
+
+    /// Restores into the voice in a slot.
+    pub fn restore(&mut self, slot: usize, bytes: &[u8]) -> u64 {
+        match self {
+            #[cfg(feature = "linked")]
+            Ours::Linked(voices) => voices.restore(slot, bytes),
+            Ours::Bridge(bridge) => bridge.restore_voice(slot, bytes),
+        }
+    }
+
+    /// Cuts the voice in a slot so many times.
+    pub fn cut(&mut self, slot: usize, cuts: &[Cut]) -> Vec<CutOutcome> {
+        match self {
+            #[cfg(feature = "linked")]
+            Ours::Linked(voices) => cuts.iter().map(|cut| voices.cut(slot, cut)).collect(),
+            Ours::Bridge(bridge) => bridge.cut_voice(slot, cuts),
         }
     }
 }

@@ -2,13 +2,16 @@
 
 use crate::frames::Frame;
 use crate::ours::SLOTS;
+use crate::rest::{Cut, CutOutcome, Saved};
+use crate::rest_calls;
+use crate::spectrum::DONE;
 use crate::voice::{Call, Kind, Outcome};
 use crate::voice_structs::{Configuration, Voice};
 
 #[repr(C)]
-struct Answered {
-    number: u64,
-    voice: Voice,
+pub struct Answered {
+    pub number: u64,
+    pub voice: Voice,
 }
 
 #[repr(C)]
@@ -64,8 +67,8 @@ impl Voices {
         self.slots[slot]
     }
 
-    pub fn write(&mut self, slot: usize, voice: &Voice) {
-        self.slots[slot] = *voice;
+    pub fn write(&mut self, slot: usize, words: &[u64]) {
+        self.slots[slot] = Voice::read(&mut words.iter().copied()).expect("words enough");
     }
 
     /// Makes the call on a copy of its buffer.
@@ -77,6 +80,32 @@ impl Voices {
             number: drawn.number,
             made: drawn.made,
             buffer,
+        }
+    }
+
+    pub fn save(&self, slot: usize, buffer: &[u8]) -> Saved {
+        rest_calls::save(&self.slots[slot], buffer)
+    }
+
+    pub fn restore(&mut self, slot: usize, bytes: &[u8]) -> u64 {
+        let restored = rest_calls::restore(&self.slots[slot], bytes);
+        self.slots[slot] = restored.voice;
+        restored.number
+    }
+
+    pub fn cut(&mut self, slot: usize, cut: &Cut) -> CutOutcome {
+        let drawn = self.call(slot, &cut.draw());
+        let saved = self.save(slot, &cut.buffer());
+        let restored = (saved.number == DONE).then(|| {
+            let into = &self.slots[cut.into];
+            let restored = rest_calls::restore(into, &saved.buffer[..saved.bytes]);
+            self.slots[slot] = restored.voice;
+            restored.number
+        });
+        CutOutcome {
+            drawn,
+            saved,
+            restored,
         }
     }
 }

@@ -12,6 +12,8 @@ pub const NOT_FINITE: u64 = 6;
 pub const BEYOND: u64 = 7;
 pub const METER: u64 = 8;
 pub const NOTHING_LEFT: u64 = 10;
+pub const NO_ROOM: u64 = 12;
+pub const RECORDS: u64 = 13;
 pub const SHORT: u64 = 14;
 
 /// The most that a meter and the samples left may come to.

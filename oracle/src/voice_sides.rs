@@ -2,6 +2,8 @@
 
 use crate::ours::Ours;
 use crate::remembered::Remembered;
+use crate::rest::Cut;
+use crate::rest_records;
 use crate::rusts_voice::Rusts;
 use crate::spectrum::DONE;
 use crate::voice::Call;
@@ -62,6 +64,27 @@ impl Sides {
         tally.call(self.rusts.configuration(), call, &own, &right);
         if let Some(before) = before {
             tally.voice("voice after a refusal", &self.ours(), &before);
+        }
+    }
+
+    /// Saves ours into a buffer of so many bytes, and compares with the records of the Rust's.
+    pub fn save(&self, tally: &mut Tally, length: usize) {
+        let buffer = vec![0xA5; length];
+        let own = self.functions.voices.borrow_mut().save(self.slot, &buffer);
+        let right = rest_records::save(&self.rusts.voice(), &buffer);
+        tally.saved(self.rusts.configuration(), &own, &right);
+    }
+
+    /// Cuts ours; the Rust's is only drawn from.
+    pub fn cut(&mut self, tally: &mut Tally, cuts: &[Cut]) {
+        let outcomes = self.functions.voices.borrow_mut().cut(self.slot, cuts);
+        for (cut, own) in cuts.iter().zip(&outcomes) {
+            let draw = cut.draw();
+            let drawn = self.rusts.call(&draw);
+            let configuration = self.rusts.configuration();
+            tally.call(configuration, &draw, &own.drawn, &drawn);
+            let saved = rest_records::save(&self.rusts.voice(), &cut.buffer());
+            tally.cut_after(drawn.made, configuration, own, &saved);
         }
     }
 

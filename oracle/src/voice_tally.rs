@@ -13,6 +13,7 @@ pub struct Tally {
     voices: u64,
     samples: u64,
     finite: u64,
+    cuts: u64,
     states: u64,
     /// The calls by kind and number.
     calls: BTreeMap<(&'static str, u64), u64>,
@@ -27,6 +28,7 @@ impl Tally {
             voices: 0,
             samples: 0,
             finite: 0,
+            cuts: 0,
             states: 0,
             calls: BTreeMap::new(),
             differences: 0,
@@ -39,10 +41,24 @@ impl Tally {
         self.voices += 1;
     }
 
+    /// A call by its number.
+    pub fn count(&mut self, kind: &'static str, number: u64) {
+        *self.calls.entry((kind, number)).or_default() += 1;
+    }
+
+    /// A stream was cut between two draws.
+    pub fn cut(&mut self) {
+        self.cuts += 1;
+    }
+
+    pub fn cuts(&self) -> u64 {
+        self.cuts
+    }
+
     /// The number of an open.
     pub fn open(&mut self, configuration: &Configuration, own: u64, right: u64) {
         self.voices += 1;
-        *self.calls.entry(("open", right)).or_default() += 1;
+        self.count("open", right);
         self.words("open", configuration, [own], [right], |_| {
             "number".to_string()
         });
@@ -56,10 +72,7 @@ impl Tally {
         own: &Outcome,
         right: &Outcome,
     ) {
-        *self
-            .calls
-            .entry((call.kind.name(), right.number))
-            .or_default() += 1;
+        self.count(call.kind.name(), right.number);
         if right.made > 0 {
             let samples = &right.buffer[call.start..][..right.made];
             self.finite += samples.iter().filter(|x| x.is_finite()).count() as u64;
@@ -92,7 +105,7 @@ impl Tally {
     }
 
     /// Counts and shows the first difference of two lists of words.
-    fn words(
+    pub fn words(
         &mut self,
         what: &str,
         configuration: &Configuration,
@@ -148,14 +161,19 @@ impl Tally {
 
     /// Prints the lines, and says whether all were equal.
     pub fn finish(self) -> bool {
+        let cuts = match self.cuts {
+            0 => String::new(),
+            cuts => format!("{cuts} cuts, "),
+        };
         println!(
-            "{}: {} voices, {} frames, {} samples, {} finite, {} not, {} states, {} differences ({:.1} s)",
+            "{}: {} voices, {} frames, {} samples, {} finite, {} not, {}{} states, {} differences ({:.1} s)",
             self.name,
             self.voices,
             self.frames(),
             self.samples,
             self.finite,
             self.samples - self.finite,
+            cuts,
             self.states,
             self.differences,
             self.started.elapsed().as_secs_f64()

@@ -1,13 +1,13 @@
 -- Save and restore, one law for each way out. Assumes nothing.
 use mathlib.Core.Path.{_≡_, refl, sym, _∙_, ap}
-use mathlib.Core.Bool.{Bool, true, false, not, _&&_, _||_}
+use mathlib.Core.Bool.{Bool, true, false, _&&_}
 use mathlib.Core.List.{List, _++_}
 use Prim.Native.Nat.{ℕ, _+_, _*_, _/_, _%_, _≤_, _<_}
 use native.Mathlib.Omega.{arith}
-use lib.Dec.{eqb, ltb}
+use lib.Dec.{eqb}
 use lib.ListN.{length, take, drop, replicate}
 use lib.Seq.{sets, sets-eq}
-use borrow.Author.Tests.{lt-ltb, le-ltb, ltb-false, eq-eqb, eqb-true, not-false}
+use borrow.Author.Tests.{lt-ltb, le-ltb, eq-eqb, eqb-true}
 use Rattle.number.specs.Lists.{over, row}
 use Rattle.number.proofs.Lists.{length-row}
 use Rattle.number.proofs.Floats.{both-first, both-second}
@@ -86,11 +86,6 @@ lent-slots n h = length-row 0 n slotArray (omega arith) h ∙ omega arith
 
 -- ---- restore
 
--- neither of two
-neither : (a b : Bool) → (a || b) ≡ false → (a ≡ false) × (b ≡ false)
-neither true b e = let z : _≡_ {A = ℕ} 0 1 = cc in absurd (omega (arith, z))
-neither false b e = (refl, e)
-
 module _ (bytes : List ℕ) where
   -- what acceptable records are
   pub record Accepts : Type 0 where
@@ -147,32 +142,19 @@ module _ (bytes : List ℕ) where
       go false e = e
 
   -- the tests of the size
-  abbrev pub wrongSize : Bool
-  wrongSize = not (eqb (length bytes % 16) 0) || ltb (recordCount bytes) 12 || ltb 917 (recordCount bytes)
+  pub part-refused : (length bytes % 16 ≡ 0 → ⊥) → accepted bytes ≡ false
+  part-refused never = refused-where (λ (e : accepted bytes ≡ true). let a = accepts-of e in let none : length bytes % 16 ≡ 0 = omega (arith, a .whole) in never none)
 
-  pub size-refused : wrongSize ≡ true → accepted bytes ≡ false
-  size-refused e = refused-where never
-    where
-      never : accepted bytes ≡ true → ⊥
-      never q =
-          let a = accepts-of q in
-          let none : length bytes % 16 ≡ 0 = omega (arith, a .whole) in
-          let right : wrongSize ≡ false = rw (eq-eqb (length bytes % 16) 0 none, le-ltb (recordCount bytes) 12 (omega (arith, a .least)), le-ltb 917 (recordCount bytes) (a .most)) refl in
-          let z : _≡_ {A = Bool} true false = sym e ∙ right in
-          let y : _≡_ {A = ℕ} 0 1 = cc in
-          omega (arith, y)
+  pub few-refused : recordCount bytes < 12 → accepted bytes ≡ false
+  few-refused h = refused-where (λ (e : accepted bytes ≡ true). omega (arith, h, accepts-of e .least))
 
-  pub size-fits : wrongSize ≡ false → (length bytes ≡ 16 * recordCount bytes) × (12 ≤ recordCount bytes) × (recordCount bytes ≤ 917)
-  size-fits e =
-      let two = neither (not (eqb (length bytes % 16) 0) || ltb (recordCount bytes) 12) (ltb 917 (recordCount bytes)) e in
-      let one = neither (not (eqb (length bytes % 16) 0)) (ltb (recordCount bytes) 12) (two .0) in
-      let none : length bytes % 16 ≡ 0 = eqb-true (length bytes % 16) 0 (not-false _ (one .0)) in
-      (omega (arith, none), ltb-false (recordCount bytes) 12 (one .1), ltb-false 917 (recordCount bytes) (two .1))
+  pub many-refused : 917 < recordCount bytes → accepted bytes ≡ false
+  many-refused h = refused-where (λ (e : accepted bytes ≡ true). omega (arith, h, accepts-of e .most))
 
   module _ (v : Voice) where
-    pub restores-refused : accepted bytes ≡ false → Restores bytes v (record { number = 13; voice = v })
+    pub restores-refused : (r : Answered) → accepted bytes ≡ false → (r .number ≡ 13) × (r .voice ≡ v) → Restores bytes v r
     unfolding restored
-    restores-refused e = record { number = rw e refl; voice = rw e refl }
+    restores-refused r e same = record { number = rw e (same .0); voice = rw e (same .1) }
 
     pub restores-done : (w : Voice) → accepted bytes ≡ true → w ≡ voiceIn (slotsIn bytes) → Restores bytes v (record { number = 0; voice = w })
     unfolding restored

@@ -73,6 +73,16 @@ pub fn save(voice: Voice, out: &mut [u8]) -> Saved
     }
 }
 
+// A refused restore: the voice that was handed in.
+fn refused(voice: Voice) -> Answered
+    ensures { λ r. ⌜ (r .number ≡ 13) × (r .voice ≡ voice) ⌝ }
+{
+    Answered {
+        number: RECORDS_WRONG,
+        voice,
+    }
+}
+
 // The voice in the records, where they are acceptable.
 fn read_records(voice: Voice, bytes: &[u8], slots: &mut [u64]) -> Answered
     requires { ⌜ (length (now bytes) ≡ 16 * length (now slots)) × (12 ≤ length (now slots)) ⌝ }
@@ -80,10 +90,7 @@ fn read_records(voice: Voice, bytes: &[u8], slots: &mut [u64]) -> Answered
 {
     let ordered = decode(bytes, slots);
     if !(ordered & is_sound(slots)) {
-        return Answered {
-            number: RECORDS_WRONG,
-            voice,
-        };
+        return refused(voice);
     }
     Answered {
         number: DONE,
@@ -96,11 +103,14 @@ pub fn restore(voice: Voice, bytes: &[u8]) -> Answered
     ensures { λ r. ⌜ Restores (now (bytes .entry)) voice r ⌝ }
 {
     let count = bytes.len() / RECORD;
-    if (bytes.len() % RECORD != 0) | (count < CONFIGURATION_SLOTS) | (count > MOST_SLOTS) {
-        return Answered {
-            number: RECORDS_WRONG,
-            voice,
-        };
+    if bytes.len() % RECORD != 0 {
+        return refused(voice);
+    }
+    if count < CONFIGURATION_SLOTS {
+        return refused(voice);
+    }
+    if count > MOST_SLOTS {
+        return refused(voice);
     }
     let mut slots = [0; 917];
     read_records(voice, bytes, &mut slots[0..count])

@@ -17,3 +17,4 @@ pub mod WordLaws
 pub mod TripLaws
 pub mod GoodLaws
 pub mod Demand3
+pub mod ComputedLaws

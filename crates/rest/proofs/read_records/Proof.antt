@@ -17,13 +17,16 @@ decode-requires c κs = search needs
 is-sound-requires : tie.Need-is-sound-requires
 is-sound-requires c κs = search needs
 
+refused-requires : tie.Need-refused-requires
+refused-requires c κs = search needs
+
 same-length : tie.Need-same-length
 same-length c = search needs
 
 returns : tie.Need-returns
 returns c =
-    let tests = read-tests (c .before .before .before .before .before .before .before .before .before .args .bytes .now) (length (c .before .before .before .before .before .before .before .before .before .args .slots .now)) (c .before .before .before .before .before .before .before .before .before .pre .0) _ _ _ (c .before .before .before .before .before .decode .ensures .0) (c .before .before .before .before .before .decode .ensures .1) (c .before .is-sound .ensures) in
-    restores-refused (c .before .before .before .before .before .before .before .before .before .args .bytes .now) (c .before .before .before .before .before .before .before .before .before .args .voice) (sym tests ∙ not-true _ (c .if1 .taken))
+    let tests = read-tests (c .before .before .before .before .before .before .before .before .before .before .args .bytes .now) (length (c .before .before .before .before .before .before .before .before .before .before .args .slots .now)) (c .before .before .before .before .before .before .before .before .before .before .pre .0) _ _ _ (c .before .before .before .before .before .before .decode .ensures .0) (c .before .before .before .before .before .before .decode .ensures .1) (c .before .before .is-sound .ensures) in
+    restores-refused (c .before .before .before .before .before .before .before .before .before .before .args .bytes .now) (c .before .before .before .before .before .before .before .before .before .before .args .voice) _ (sym tests ∙ not-true _ (c .before .if1 .taken)) (c .refused .ensures)
 
 voice-in-requires : tie.Need-voice-in-requires
 voice-in-requires c κs = sym (c .before .before .is-sound .ensures) ∙ both-second (c .before .before .before .before .before .before .decode .result) (c .before .before .is-sound .result) (not-false _ (c .before .if1 .left))
@@ -42,6 +45,7 @@ read-records-spec =
     (tie.spec
     decode-requires
     is-sound-requires
+    refused-requires
     same-length
     returns
     voice-in-requires

@@ -1,0 +1,64 @@
+-- Slots at computed points. Assumes nothing.
+use mathlib.Core.Path.{_≡_, refl}
+use mathlib.Core.Bool.{true, false}
+use mathlib.Core.List.{List, [], _∷_, _++_}
+use Prim.Native.Nat.{ℕ, _*_}
+use lib.ListN.{length, getD, take, drop, replicate}
+use lib.Ieee.{Float, ofBits, toBits, nanBits}
+use Rattle.number.specs.Bits.{otherNan}
+use Rattle.configuration.specs.declared.Configuration.{Configuration}
+use Rattle.configuration.specs.Limits.{usual}
+use Rattle.voice.specs.Voice.{atRest, freshVoice}
+use Rattle.slots.specs.Slots.{countOf, valuesOf}
+use Rattle.slots.specs.Sound.{oneForm}
+
+-- nmcp, nlpf and stage of the usual configuration changed
+abbrev pub ordered : (nmcp nlpf stage : ℕ) → Configuration
+ordered nmcp nlpf stage = record {
+  nmcp = nmcp;
+  nlpf = nlpf;
+  stage = stage;
+  log = usual .log;
+  rate = usual .rate;
+  alpha = usual .alpha;
+  beta = usual .beta;
+  volume = usual .volume;
+  fperiod = usual .fperiod;
+  nodata = usual .nodata;
+  low = usual .low;
+  high = usual .high;
+}
+
+-- 390 records of 16 bytes at nmcp 25, nlpf 31, stage 0; 917 at most
+pub usual-count : countOf usual ≡ 390
+unfolding countOf
+usual-count = refl
+
+pub usual-bytes : 16 * 390 ≡ 6240
+usual-bytes = refl
+
+pub most-count : countOf (ordered 64 64 8) ≡ 917
+unfolding countOf
+most-count = refl
+
+pub most-bytes : 16 * 917 ≡ 14672
+most-bytes = refl
+
+-- A fresh voice: first flag 1, `next` 1, used 64, and every other slot after 11 is zero. Here two coefficients at stage 0 and no taps.
+pub fresh-slots : drop 12 (valuesOf (freshVoice (ordered 2 0 0))) ≡ 0 ∷ 0 ∷ 1 ∷ 0 ∷ 0 ∷ 0 ∷ 0 ∷ 1 ∷ 64 ∷ replicate 100 0
+unfolding valuesOf atRest ofBits toBits
+fresh-slots = refl
+
+-- slots 0 to 11: two coefficients, no taps, stage 0, no log gain, 16,000 a second
+pub first-slots : take 5 (valuesOf (freshVoice (ordered 2 0 0))) ≡ 2 ∷ 0 ∷ 0 ∷ 0 ∷ 16000 ∷ []
+unfolding valuesOf atRest
+first-slots = refl
+
+-- the one NaN that is written, and another
+pub quiet-kept : oneForm 0x7ff8_0000_0000_0000 ≡ true
+unfolding oneForm otherNan nanBits
+quiet-kept = refl
+
+pub payload-refused : oneForm 0x7ff8_0000_0000_0001 ≡ false
+unfolding oneForm otherNan nanBits
+payload-refused = refl

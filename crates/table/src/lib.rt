@@ -1,0 +1,1 @@
+// Document 01's numbers to meet, in one table: theorems alone, and no code.
