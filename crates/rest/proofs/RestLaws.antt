@@ -2,7 +2,7 @@
 use mathlib.Core.Path.{_≡_, refl, sym, _∙_, ap}
 use mathlib.Core.Bool.{Bool, true, false, _&&_}
 use mathlib.Core.List.{List, _++_}
-use Prim.Native.Nat.{ℕ, _+_, _*_, _/_, _%_, _≤_, _<_}
+use Prim.Native.Nat.{ℕ, _+_, _*_, _%_, _≤_, _<_}
 use native.Mathlib.Omega.{arith}
 use lib.Dec.{eqb}
 use lib.ListN.{length, take, drop, replicate}
@@ -11,7 +11,6 @@ use borrow.Author.Tests.{lt-ltb, le-ltb, eq-eqb, eqb-true}
 use Rattle.number.specs.Lists.{over, row}
 use Rattle.number.proofs.Lists.{length-row}
 use Rattle.number.proofs.Floats.{both-first, both-second}
-use Rattle.configuration.specs.declared.Configuration.{Configuration}
 use Rattle.configuration.specs.Limits.{limitsKept}
 use Rattle.voice.specs.declared.Voice.{Voice}
 use Rattle.voice.specs.declared.Answered.{Answered}
@@ -20,12 +19,11 @@ use Rattle.voice.proofs.IdleLaws.{kept-of}
 use Rattle.records.specs.Records.{encoded, numbered, valuesIn, inOrder}
 use Rattle.records.proofs.RecordLaws.{sets-all, length-values}
 use Rattle.records.proofs.TripLaws.{length-encoded}
-use Rattle.slots.specs.Slots.{valuesOf, slotsOf, countOf, configurationIn, voiceIn}
+use Rattle.slots.specs.Slots.{valuesOf, countOf, configurationIn, voiceIn}
 use Rattle.slots.specs.Sound.{sound}
 use Rattle.slots.proofs.CountLaws.{Long, length-valuesOf, count-least, count-most}
 use Rattle.slots.proofs.SoundLaws.{sound-of}
-use Rattle.rest.specs.declared.Saved.{Saved}
-use Rattle.rest.specs.Rest.{recordsOf, saveNumber, saved, Saves, recordCount, slotsIn, accepted, restored, Restores}
+use Rattle.rest.specs.Rest.{recordsOf, saveNumber, Saves, recordCount, slotsIn, accepted, restored, Restores}
 
 -- ---- save
 

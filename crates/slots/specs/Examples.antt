@@ -1,10 +1,10 @@
 -- Slots at computed points. Assumes nothing.
 use mathlib.Core.Path.{_≡_, refl}
 use mathlib.Core.Bool.{true, false}
-use mathlib.Core.List.{List, [], _∷_, _++_}
+use mathlib.Core.List.{[], _∷_}
 use Prim.Native.Nat.{ℕ, _*_}
-use lib.ListN.{length, getD, take, drop, replicate}
-use lib.Ieee.{Float, ofBits, toBits, nanBits}
+use lib.ListN.{take, drop, replicate}
+use lib.Ieee.{ofBits, toBits, nanBits}
 use Rattle.number.specs.Bits.{otherNan}
 use Rattle.configuration.specs.declared.Configuration.{Configuration}
 use Rattle.configuration.specs.Limits.{usual}

@@ -1,13 +1,11 @@
 -- The slots of a voice, in the order of the rest records, and the voice that such values make. Assumes nothing.
-use mathlib.Core.Path.{_≡_}
-use mathlib.Core.Bool.{Bool, true, false, not, cond}
+use mathlib.Core.Bool.{Bool, not, cond}
 use mathlib.Core.List.{List, [], _∷_, _++_, map}
 use Prim.Native.Nat.{ℕ, _+_, _*_}
 use lib.Dec.{eqb}
-use lib.ListN.{length, getD, take, drop, replicate}
+use lib.ListN.{getD, take, drop, replicate}
 use lib.Ieee.{Float}
 use Rattle.number.specs.F64.{0f}
-use Rattle.number.specs.Lists.{over}
 use Rattle.number.specs.Bits.{bitsOf, floatOf}
 use Rattle.records.specs.Records.{Slot, numbered}
 use Rattle.pulse.specs.declared.Pulse.{Pulse}

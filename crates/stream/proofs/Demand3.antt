@@ -2,11 +2,11 @@
 use mathlib.Core.Path.{_≡_, refl, sym, _∙_, ap, subst}
 use mathlib.Core.Bool.{Bool, true, false}
 use mathlib.Core.List.{List, []}
-use Prim.Native.Nat.{ℕ, zero, suc, _+_, _<_}
+use Prim.Native.Nat.{ℕ, _+_, _<_}
 use native.Mathlib.Omega.{arith}
 use lib.Ieee.{Float}
 use Rattle.history.specs.Steps.{one}
-use Rattle.history.specs.Machine.{Answer, answer}
+use Rattle.history.specs.Machine.{answer}
 use Rattle.history.proofs.CallLaws.{Laws}
 use Rattle.history.proofs.HistoryLaws.{demand-3, older}
 use Rattle.noise.specs.Draw.{tries}
@@ -20,7 +20,7 @@ use Rattle.refusing.specs.Refusal.{Frame}
 use Rattle.giving.specs.Give.{refusal, given}
 use Rattle.drawing.specs.Step.{step}
 use Rattle.held.specs.Held.{HeldConfiguration, HeldFrame}
-use Rattle.rest.specs.Rest.{recordsOf, saveNumber, writtenBy, saved, accepted, restored}
+use Rattle.rest.specs.Rest.{saveNumber, writtenBy, saved, accepted, restored}
 use Rattle.stream.specs.Stream.{voiceCalls, VoiceDemand3, VoiceOlder}
 use Rattle.stream.proofs.UsableLaws.{given-kept, step-usable}
 use Rattle.stream.proofs.TripLaws.{Good, limits, restore-saved}

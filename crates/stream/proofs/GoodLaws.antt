@@ -1,9 +1,8 @@
 -- Every voice that the calls return is good: open, give, a sample, restore. Assumes nothing.
-use mathlib.Core.Path.{_≡_, refl, sym, _∙_, ap, subst}
-use mathlib.Core.Bool.{Bool, true, false, cond}
+use mathlib.Core.Path.{_≡_}
+use mathlib.Core.Bool.{true}
 use mathlib.Core.List.{List, [], _∷_, map}
-use Prim.Native.Nat.{ℕ, zero, suc, _+_, _*_, _^_, _<_}
-use native.Mathlib.Omega.{arith}
+use Prim.Native.Nat.{ℕ, zero, _+_, _*_, _<_}
 use lib.Dec.{eqb, lit<}
 use lib.Ieee.{Float, binary64}
 use lib.Ieee.Bits.{ofBits-fits}
@@ -14,7 +13,6 @@ use Rattle.number.specs.Bytes.{Bytes}
 use Rattle.history.specs.Steps.{one}
 use Rattle.elementary.specs.Outcome.{Outcome, outside, inside}
 use Rattle.prepare.specs.Preparing.{Spectra}
-use Rattle.mlsa.specs.declared.MelLogSpectrumApproximation.{MelLogSpectrumApproximation}
 use Rattle.mlsa.specs.Mlsa.{freshFilter}
 use Rattle.mglsa.specs.declared.MelGeneralizedLogSpectrumApproximation.{MelGeneralizedLogSpectrumApproximation}
 use Rattle.mglsa.specs.Mglsa.{freshRows}
@@ -26,7 +24,7 @@ use Rattle.refusing.specs.Refusal.{Frame}
 use Rattle.giving.specs.Give.{prepared, refusal, begun, begunWith, given}
 use Rattle.drawing.specs.Step.{step}
 use Rattle.whole.proofs.Demand2.{still-usable, earlier-none}
-use Rattle.held.specs.Held.{Holds, AllHeld, HeldConfiguration, HeldPulse, HeldTaps, Held, HeldFrame}
+use Rattle.held.specs.Held.{Holds, AllHeld, HeldConfiguration, HeldTaps, Held, HeldFrame}
 use Rattle.held.proofs.HeldLists.{held-front, held-zeros}
 use Rattle.held.proofs.HeldFresh.{fresh-held}
 use Rattle.held.proofs.HeldGive.{given-held}

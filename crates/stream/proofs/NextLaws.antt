@@ -1,12 +1,11 @@
 -- The noise's `next` stays below 2^64. Assumes nothing.
-use mathlib.Core.Path.{_≡_, refl}
-use mathlib.Core.Bool.{Bool, true, false}
+use mathlib.Core.Path.{_≡_}
 use mathlib.Core.List.{List}
 use Prim.Native.Nat.{ℕ, zero, suc, _^_, _<_}
 use native.Mathlib.Nat.{mod-lt}
 use lib.Dec.{lit<, ltb}
 use lib.Ieee.{Float}
-use Rattle.history.specs.Steps.{Step, dry, one, Run, steps, onward}
+use Rattle.history.specs.Steps.{Step, dry, one, steps, onward}
 use Rattle.noise.specs.declared.Random.{Random}
 use Rattle.noise.specs.Draw.{tryOf, accepted}
 use Rattle.noise.specs.Noise.{foundOf, pairStep, pairOf, concat, fillingOf, takeFrom, takeFirst, noiseOf}

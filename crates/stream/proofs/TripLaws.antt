@@ -1,10 +1,9 @@
 -- ROUND TRIPS: restore of what save wrote is the voice, and save of what restore accepted is the same bytes. Assumes nothing.
 use mathlib.Core.Path.{_≡_, refl, sym, _∙_, ap}
-use mathlib.Core.Bool.{Bool, true, false, not, _&&_}
+use mathlib.Core.Bool.{true, false, not}
 use mathlib.Core.List.{List, []}
-use Prim.Native.Nat.{ℕ, _+_, _*_, _/_, _%_, _^_, _≤_}
+use Prim.Native.Nat.{ℕ, _+_, _*_, _%_, _^_, _≤_}
 use native.Mathlib.Omega.{arith}
-use lib.Dec.{eqb}
 use lib.ListN.{length}
 use borrow.Author.Tests.{eq-eqb, not-false}
 use Rattle.number.specs.Bytes.{Bytes}
@@ -16,7 +15,7 @@ use Rattle.voice.proofs.IdleLaws.{kept-of}
 use Rattle.held.specs.Held.{Held}
 use Rattle.records.specs.Records.{encoded, numbered, valuesIn, inOrder}
 use Rattle.records.proofs.TripLaws.{values-encoded, order-encoded, encoded-values, values-below}
-use Rattle.slots.specs.Slots.{valuesOf, countOf, voiceIn}
+use Rattle.slots.specs.Slots.{valuesOf, voiceIn}
 use Rattle.slots.specs.Sound.{sound}
 use Rattle.slots.specs.Clean.{Clean}
 use Rattle.slots.proofs.CountLaws.{Long, length-valuesOf, count-most}

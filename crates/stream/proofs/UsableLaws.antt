@@ -1,7 +1,7 @@
 -- A voice that is not idle stays so: fresh, after a frame, and after a sample. Assumes nothing.
 use mathlib.Core.Path.{_≡_, refl, ap}
 use mathlib.Core.Bool.{Bool, true, false, not, _&&_, _||_}
-use Prim.Native.Nat.{ℕ, zero, suc, _+_, _-_, _%_, _≤_, _<_}
+use Prim.Native.Nat.{ℕ, _+_, _-_, _%_, _≤_, _<_}
 use native.Mathlib.Nat.{zero-mod}
 use native.Mathlib.Omega.{arith}
 use lib.Dec.{eqb, leb}
@@ -17,7 +17,7 @@ use Rattle.configuration.specs.Limits.{limitsKept}
 use Rattle.voice.specs.declared.Voice.{Voice}
 use Rattle.voice.specs.Voice.{mostMeter, atRest, freshVoice, acceptable, idle}
 use Rattle.voice.proofs.IdleLaws.{kept-of, left-of, total-of, used-of, frames-of}
-use Rattle.refusing.specs.Refusal.{Frame, earlier}
+use Rattle.refusing.specs.Refusal.{Frame}
 use Rattle.refusing.proofs.EarlierLaws.{fits-of}
 use Rattle.giving.specs.Give.{prepared, refusal, begun, given}
 use Rattle.drawing.specs.Step.{tapsOf, excitationOf, step}

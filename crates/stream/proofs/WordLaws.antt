@@ -1,11 +1,11 @@
 -- Floats that are f64 come back from their bits, and every slot of a voice is below 2^64. Assumes nothing.
-use mathlib.Core.Path.{_≡_, refl, sym, _∙_, ap, subst}
-use mathlib.Core.Bool.{Bool, true, false, cond}
+use mathlib.Core.Path.{_≡_, refl, _∙_, ap}
+use mathlib.Core.Bool.{Bool, true, false}
 use mathlib.Core.List.{List, [], _∷_, _++_, map}
 use Prim.Native.Nat.{ℕ, zero, suc, _+_, _*_, _^_, _≤_, _<_}
 use native.Mathlib.Omega.{arith}
 use lib.Dec.{lit<, eqb}
-use lib.Ieee.{Float, binary64, toBits}
+use lib.Ieee.{Float, binary64}
 use lib.Ieee.Bits.{toBits-lt}
 use lib.ListN.{getD, take}
 use Rattle.number.specs.Bits.{bitsOf, floatOf}

@@ -5,7 +5,7 @@ use mathlib.Core.List.{List, [], _∷_}
 use Prim.Native.Nat.{ℕ}
 use lib.IntN.{pos, negsuc}
 use lib.ListN.{replicate}
-use lib.Ieee.{Float, fin, binary64, ofBits, toBits, nanBits, ofInt, add, sub, mul, div, neg, isNan, eq, ne, lt, le}
+use lib.Ieee.{Float, fin, ofBits, toBits, nanBits, ofInt, add, sub, mul, div, neg, isNan, eq, ne, lt, le}
 use Rattle.number.specs.F64.{−_, 0f, ½f, 1f, 2f}
 use Rattle.number.specs.Bytes.{bytesOf, numberOf}
 use Rattle.number.specs.Bits.{otherNan}

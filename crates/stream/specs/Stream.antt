@@ -1,13 +1,11 @@
 -- The voice's calls as a history has them, and demand 3 of the voice. Nothing is proved here. Assumes nothing.
 use mathlib.Core.List.{List, []}
 use Prim.Native.Nat.{ℕ}
-use lib.Ieee.{Float}
-use Rattle.history.specs.Machine.{Answer, answer}
+use Rattle.history.specs.Machine.{answer}
 use Rattle.history.specs.History.{Calls, Demand3, answered}
 use Rattle.history.specs.Older.{Older}
 use Rattle.noise.specs.Draw.{tries}
 use Rattle.configuration.specs.declared.Configuration.{Configuration}
-use Rattle.voice.specs.declared.Voice.{Voice}
 use Rattle.voice.specs.Open.{openNumber, openedVoice}
 use Rattle.drawing.specs.Draw.{voiceOf}
 use Rattle.held.specs.Held.{HeldConfiguration, HeldFrame}

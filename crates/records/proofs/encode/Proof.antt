@@ -3,7 +3,7 @@ use borrow.Author.Needs.{needs}
 use Rattle.records.proofs.encode.Statement.{statement}
 use Rattle.records.proofs.encode.Tie as tie
 use mathlib.Core.Path.{_≡_, refl, _∙_, ap, sym}
-use Prim.Native.Nat.{_-_, _+_, _*_, _≤_}
+use Prim.Native.Nat.{_-_, _*_, _≤_}
 use native.Mathlib.Omega.{arith}
 use lib.ListN.{length, getD, drop}
 use lib.Seq.{sets, length-sets}

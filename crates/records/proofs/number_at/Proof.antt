@@ -2,7 +2,6 @@
 use borrow.Author.Needs.{needs}
 use Rattle.records.proofs.number_at.Statement.{statement}
 use Rattle.records.proofs.number_at.Tie as tie
-use native.Mathlib.Omega.{arith}
 use Rattle.records.proofs.RecordLaws.{number-here, never-short}
 
 get-word-requires : tie.Need-get-word-requires

@@ -2,13 +2,11 @@
 use borrow.Author.Needs.{needs}
 use Rattle.rest.proofs.read_records.Statement.{statement}
 use Rattle.rest.proofs.read_records.Tie as tie
-use mathlib.Core.Path.{_≡_, sym, _∙_, ap}
-use mathlib.Core.Bool.{Bool, true, false, _&&_}
+use mathlib.Core.Path.{sym, _∙_, ap}
 use lib.ListN.{length}
 use borrow.Author.Tests.{not-true, not-false}
 use Rattle.number.proofs.Floats.{both-second}
 use Rattle.slots.specs.Slots.{voiceIn}
-use Rattle.rest.specs.Rest.{accepted}
 use Rattle.rest.proofs.RestLaws.{read-tests, slots-read, restores-refused, restores-done}
 
 decode-requires : tie.Need-decode-requires

@@ -3,7 +3,6 @@ use borrow.Author.Needs.{needs}
 use Rattle.slots.proofs.check.is_sound.Statement.{statement}
 use Rattle.slots.proofs.check.is_sound.Tie as tie
 use mathlib.Core.Path.{_≡_, sym, _∙_}
-use Prim.Native.Nat.{_+_, _≤_}
 use native.Mathlib.Omega.{arith}
 use lib.ListN.{length}
 use borrow.Author.Tests.{not-true, not-false, eq-eqb, ne-eqb}

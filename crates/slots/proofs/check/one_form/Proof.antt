@@ -2,7 +2,6 @@
 use borrow.Author.Needs.{needs}
 use Rattle.slots.proofs.check.one_form.Statement.{statement}
 use Rattle.slots.proofs.check.one_form.Tie as tie
-use mathlib.Core.Path.{_∙_}
 use Rattle.slots.proofs.ReadLaws.{form-test}
 
 float-of-requires : tie.Need-float-of-requires

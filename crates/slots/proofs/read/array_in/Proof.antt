@@ -2,7 +2,6 @@
 use borrow.Author.Needs.{needs}
 use Rattle.slots.proofs.read.array_in.Statement.{statement}
 use Rattle.slots.proofs.read.array_in.Tie as tie
-use native.Mathlib.Omega.{arith}
 use Rattle.voice.specs.Voice.{none}
 use Rattle.slots.proofs.ReadLaws.{array-of}
 

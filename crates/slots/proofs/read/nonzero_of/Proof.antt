@@ -2,9 +2,9 @@
 use borrow.Author.Needs.{needs}
 use Rattle.slots.proofs.read.nonzero_of.Statement.{statement}
 use Rattle.slots.proofs.read.nonzero_of.Tie as tie
-use mathlib.Core.Path.{_≡_, refl}
+use mathlib.Core.Path.{_≡_}
 use mathlib.Core.Bool.{false}
-use Prim.Native.Nat.{ℕ, _+_, _*_, _≤_}
+use Prim.Native.Nat.{_+_, _*_, _≤_}
 use native.Mathlib.Omega.{arith}
 use lib.Dec.{eqb}
 use lib.ListN.{length}

@@ -2,7 +2,7 @@
 use borrow.Author.Needs.{needs}
 use Rattle.slots.proofs.read.read_floats.Statement.{statement}
 use Rattle.slots.proofs.read.read_floats.Tie as tie
-use mathlib.Core.Path.{_≡_, refl, sym, _∙_}
+use mathlib.Core.Path.{_≡_, refl, _∙_}
 use Prim.Native.Nat.{_+_, _-_, _≤_}
 use native.Mathlib.Omega.{arith}
 use lib.ListN.{length, length-set}

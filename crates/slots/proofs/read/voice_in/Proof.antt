@@ -1,8 +1,7 @@
 -- `voice_in` meets its contract: part by part. Assumes nothing.
 use Rattle.slots.proofs.read.voice_in.Statement.{statement}
 use Rattle.slots.proofs.read.voice_in.Tie as tie
-use mathlib.Core.Path.{_≡_, refl, sym, _∙_, ap}
-use Prim.Native.Nat.{_+_, _≤_}
+use mathlib.Core.Path.{ap}
 use native.Mathlib.Omega.{arith}
 use lib.ListN.{length}
 use Rattle.configuration.specs.declared.Configuration.{Configuration}

@@ -2,8 +2,8 @@
 use borrow.Author.Needs.{needs}
 use Rattle.slots.proofs.read.zero_of.Statement.{statement}
 use Rattle.slots.proofs.read.zero_of.Tie as tie
-use mathlib.Core.Path.{_≡_, refl}
-use Prim.Native.Nat.{ℕ, _+_, _*_, _≤_}
+use mathlib.Core.Path.{_≡_}
+use Prim.Native.Nat.{_+_, _*_, _≤_}
 use native.Mathlib.Omega.{arith}
 use lib.ListN.{length}
 use borrow.Author.Tests.{eq-eqb, ne-eqb}
