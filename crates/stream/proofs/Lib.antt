@@ -18,3 +18,4 @@ pub mod TripLaws
 pub mod GoodLaws
 pub mod Demand3
 pub mod ComputedLaws
+pub mod CallsGood
