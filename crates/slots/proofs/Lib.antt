@@ -2,12 +2,3 @@ pub mod CountLaws
 pub mod GatherLaws
 pub mod ReadLaws
 pub mod SoundLaws
-pub mod StandLaws
-pub mod StandParts
-pub mod MadeLaws
-pub mod AgainLaws
-pub mod PartLaws
-pub mod StayLaws
-pub mod FilterLaws
-pub mod FormLaws
-pub mod BackLaws

@@ -1,4 +1,3 @@
 pub mod Slots
 pub mod Sound
-pub mod Clean
 pub mod Examples

@@ -5,8 +5,14 @@ ghost use lib.ListN.{length};
 ghost use Rattle.refusing.specs.Refusal.{every};
 ghost use Rattle.slots.specs.Slots.{configurationIn};
 ghost use Rattle.slots.specs.Sound.{oneForm, formsKept, sound};
-use crate::LINE_AT;
 use crate::count_of;
+use crate::places::FIRST_AT;
+use crate::places::LEFT_AT;
+use crate::places::METER_AT;
+use crate::places::is_set;
+use crate::places::noise_at;
+use crate::places::queue_at;
+use crate::places::used_at;
 use configuration::Configuration;
 use number::bits::bits_of;
 use number::bits::float_of;
@@ -21,7 +27,7 @@ pub fn configuration_in(slots: &[u64]) -> Configuration
         nmcp: slots[0] as usize,
         nlpf: slots[1] as usize,
         stage: slots[2],
-        log: slots[3] != 0,
+        log: is_set(slots[3]),
         rate: slots[4],
         alpha: float_of(slots[5]),
         beta: float_of(slots[6]),
@@ -56,15 +62,15 @@ fn forms_kept(values: &[u64]) -> bool
 
 // Whether all floats have it.
 fn all_forms_kept(slots: &[u64], nlpf: usize) -> bool
-    requires { ⌜ 19 + nlpf + nlpf + 2 ≤ length (now slots) ⌝ }
+    requires { ⌜ (nlpf ≤ 64) × (19 + nlpf + nlpf + 2 ≤ length (now slots)) ⌝ }
     ensures { λ r. ⌜ r ≡ formsKept nlpf (now (slots .entry)) ⌝ }
 {
-    let noise_at = LINE_AT + nlpf + nlpf;
-    let queue_at = noise_at + 2;
+    let noise = noise_at(nlpf);
+    let queue = queue_at(nlpf);
     forms_kept(&slots[5..8])
         & forms_kept(&slots[9..12])
-        & forms_kept(&slots[15..noise_at])
-        & forms_kept(&slots[queue_at..])
+        & forms_kept(&slots[15..noise])
+        & forms_kept(&slots[queue..])
 }
 
 // Count, form of the NaNs, flags, and the rules that an idle voice breaks.
@@ -79,13 +85,13 @@ pub fn is_sound(slots: &[u64]) -> bool
     if count_of(c) != slots.len() {
         return false;
     }
-    let flags = (slots[3] <= 1) & (slots[14] <= 1);
-    let used = slots[LINE_AT + c.nlpf + c.nlpf + 1];
+    let flags = (slots[3] <= 1) & (slots[FIRST_AT] <= 1);
+    let used = slots[used_at(c.nlpf)];
     usable(
         c,
-        slots[12],
-        slots[13] as usize,
-        slots[14] != 0,
+        slots[METER_AT],
+        slots[LEFT_AT] as usize,
+        is_set(slots[FIRST_AT]),
         used as usize,
     )
         & flags

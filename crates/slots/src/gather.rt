@@ -8,7 +8,11 @@ ghost use lib.Seq.{sets};
 ghost use Rattle.number.specs.Bits.{bitsOf};
 ghost use Rattle.configuration.specs.Limits.{limitsKept};
 ghost use Rattle.slots.specs.Slots.{headValues, excitationValues, spectrumValues, filterCount, filterValues, valuesOf, countOf};
-use crate::LINE_AT;
+use crate::places::LINE_AT;
+use crate::places::filter_at;
+use crate::places::noise_at;
+use crate::places::queue_at;
+use crate::places::spectrum_at;
 use number::bits::bits_of;
 use voice::Voice;
 
@@ -80,12 +84,8 @@ fn put_excitation(voice: Voice, slots: &mut [u64])
     let queue = random.queue;
     put_floats(slots, LINE_AT, &line[0..nlpf]);
     put_floats(slots, LINE_AT + nlpf, &lpf[0..nlpf]);
-    put_numbers(
-        slots,
-        LINE_AT + nlpf + nlpf,
-        &[random.next, random.used as u64],
-    );
-    put_floats(slots, LINE_AT + nlpf + nlpf + 2, &queue);
+    put_numbers(slots, noise_at(nlpf), &[random.next, random.used as u64]);
+    put_floats(slots, queue_at(nlpf), &queue);
 }
 
 // The coefficients, their increments and targets.
@@ -139,14 +139,12 @@ pub fn gather(voice: Voice, slots: &mut [u64])
     ensures { λ _. ⌜ now (slots .exit) ≡ sets (now (slots .entry)) 0 (valuesOf voice) ⌝ }
 {
     let c = voice.configuration;
-    let spectrum_at = LINE_AT + c.nlpf + c.nlpf + 66;
-    let filter_at = spectrum_at + c.nmcp + c.nmcp + c.nmcp;
     put_head(voice, slots);
     put_excitation(voice, slots);
-    put_spectrum(voice, slots, spectrum_at);
+    put_spectrum(voice, slots, spectrum_at(c.nlpf));
     if c.stage == 0 {
-        put_zero(voice, slots, filter_at);
+        put_zero(voice, slots, filter_at(c.nlpf, c.nmcp));
     } else {
-        put_nonzero(voice, slots, filter_at);
+        put_nonzero(voice, slots, filter_at(c.nlpf, c.nmcp));
     }
 }

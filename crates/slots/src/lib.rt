@@ -1,6 +1,7 @@
 // A voice as the values of its slots, in the order of the rest records, and back.
 pub mod check;
 pub mod gather;
+mod places;
 pub mod read;
 
 ghost use mathlib.Core.Bool.{true};
@@ -14,9 +15,6 @@ pub const MOST_SLOTS: usize = 917;
 
 // The slots of a configuration.
 pub const CONFIGURATION_SLOTS: usize = 12;
-
-// Where the delay line begins: after the configuration, the counters and the pulse train.
-const LINE_AT: usize = 19;
 
 // How many slots a voice of this configuration has.
 pub fn count_of(c: Configuration) -> usize

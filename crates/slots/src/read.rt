@@ -8,8 +8,17 @@ ghost use Rattle.number.specs.Bits.{floatOf};
 ghost use Rattle.slots.specs.Slots.{arrayAt, filterCount, pulseIn, randomIn, zeroIn, zeroFor, nonzeroIn, nonzeroFor, voiceIn};
 ghost use Rattle.configuration.specs.Limits.{limitsKept};
 ghost use Rattle.slots.specs.Sound.{sound};
-use crate::LINE_AT;
 use crate::check::configuration_in;
+use crate::places::FIRST_AT;
+use crate::places::LEFT_AT;
+use crate::places::LINE_AT;
+use crate::places::METER_AT;
+use crate::places::filter_at;
+use crate::places::increments_at;
+use crate::places::is_set;
+use crate::places::noise_at;
+use crate::places::spectrum_at;
+use crate::places::targets_at;
 use configuration::Configuration;
 use mglsa::MelGeneralizedLogSpectrumApproximation;
 use mlsa::MelLogSpectrumApproximation;
@@ -122,22 +131,20 @@ pub fn voice_in(slots: &[u64]) -> Voice
     let c = configuration_in(slots);
     let nmcp = c.nmcp;
     let nlpf = c.nlpf;
-    let noise_at = LINE_AT + nlpf + nlpf;
-    let spectrum_at = noise_at + 66;
-    let filter_at = spectrum_at + nmcp + nmcp + nmcp;
+    let filter = filter_at(nlpf, nmcp);
     Voice {
         configuration: c,
-        meter: slots[12],
-        left: slots[13] as usize,
-        first: slots[14] != 0,
+        meter: slots[METER_AT],
+        left: slots[LEFT_AT] as usize,
+        first: is_set(slots[FIRST_AT]),
         pulse: pulse_in(slots),
         line: array_in(slots, LINE_AT, nlpf),
         lpf: array_in(slots, LINE_AT + nlpf, nlpf),
-        random: random_in(slots, noise_at),
-        coefficients: array_in(slots, spectrum_at, nmcp),
-        increments: array_in(slots, spectrum_at + nmcp, nmcp),
-        targets: array_in(slots, spectrum_at + nmcp + nmcp, nmcp),
-        zero: zero_of(slots, c, filter_at),
-        nonzero: nonzero_of(slots, c, filter_at),
+        random: random_in(slots, noise_at(nlpf)),
+        coefficients: array_in(slots, spectrum_at(nlpf), nmcp),
+        increments: array_in(slots, increments_at(nlpf, nmcp), nmcp),
+        targets: array_in(slots, targets_at(nlpf, nmcp), nmcp),
+        zero: zero_of(slots, c, filter),
+        nonzero: nonzero_of(slots, c, filter),
     }
 }

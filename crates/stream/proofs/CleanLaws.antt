@@ -23,7 +23,7 @@ use Rattle.refusing.specs.Refusal.{Frame, earlier}
 use Rattle.refusing.proofs.EarlierLaws.{fits-of}
 use Rattle.giving.specs.Give.{given}
 use Rattle.drawing.specs.Step.{step}
-use Rattle.slots.specs.Clean.{zerosFrom, cleanZero, cleanNonzero, Clean}
+use Rattle.trips.specs.Clean.{zerosFrom, cleanZero, cleanNonzero, Clean}
 use Rattle.slots.proofs.CountLaws.{Long, rows-most}
 use Rattle.stream.proofs.PastLaws.{zeros-still, zeros-clean}
 use Rattle.stream.proofs.FilterLaws.{SameRows}

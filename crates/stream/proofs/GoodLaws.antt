@@ -31,7 +31,7 @@ use Rattle.held.proofs.HeldGive.{given-held}
 use Rattle.held.proofs.HeldStep.{step-held}
 use Rattle.records.proofs.TripLaws.{values-below}
 use Rattle.slots.specs.Slots.{floatsAt, arrayAt, configurationIn, pulseIn, randomIn, lpfAt, noiseAt, queueAt, spectrumAt, filterAt, zeroIn, zeroFor, nonzeroIn, nonzeroFor, voiceWith, voiceIn}
-use Rattle.slots.proofs.AgainLaws.{usable-in, long-in, clean-in}
+use Rattle.trips.proofs.AgainLaws.{usable-in, long-in, clean-in}
 use Rattle.rest.specs.Rest.{recordCount, slotsIn, accepted}
 use Rattle.rest.proofs.RestLaws.{accepts-of}
 use Rattle.stream.proofs.PartLaws.{either}

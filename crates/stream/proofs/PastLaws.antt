@@ -10,7 +10,7 @@ use Rattle.number.specs.F64.{0f}
 use Rattle.number.specs.Lists.{putRow}
 use Rattle.number.proofs.Lists.{length-over, length-putRow, putRow-after}
 use Rattle.voice.specs.Voice.{inFront}
-use Rattle.slots.specs.Clean.{zerosFrom}
+use Rattle.trips.specs.Clean.{zerosFrom}
 
 pub record Past (n : ℕ) (before after : List Float) : Type 0 where
   pub size : length after ≡ length before

@@ -17,10 +17,10 @@ use Rattle.records.specs.Records.{encoded, numbered, valuesIn, inOrder}
 use Rattle.records.proofs.TripLaws.{values-encoded, order-encoded, encoded-values, values-below}
 use Rattle.slots.specs.Slots.{valuesOf, voiceIn}
 use Rattle.slots.specs.Sound.{sound}
-use Rattle.slots.specs.Clean.{Clean}
+use Rattle.trips.specs.Clean.{Clean}
 use Rattle.slots.proofs.CountLaws.{Long, length-valuesOf, count-most}
-use Rattle.slots.proofs.BackLaws.{voice-back, sound-back}
-use Rattle.slots.proofs.AgainLaws.{values-again}
+use Rattle.trips.proofs.BackLaws.{voice-back, sound-back}
+use Rattle.trips.proofs.AgainLaws.{values-again}
 use Rattle.rest.specs.Rest.{recordsOf, recordCount, slotsIn, accepted, restored}
 use Rattle.rest.proofs.RestLaws.{length-records, accepts-of}
 use Rattle.stream.proofs.NextLaws.{Below}

@@ -18,7 +18,7 @@ use borrow.Author.Tests.{leb-true}
 use Rattle.held.specs.Held.{Holds, AllHeld, Held}
 use Rattle.held.proofs.HeldLists.{held-take}
 use Rattle.slots.specs.Slots.{bits, flag, headValues, excitationValues, spectrumValues, filterValues, valuesOf}
-use Rattle.slots.proofs.StayLaws.{AllStay, Same}
+use Rattle.trips.proofs.StayLaws.{AllStay, Same}
 use Rattle.stream.proofs.NextLaws.{Below}
 use Rattle.stream.proofs.PartLaws.{either}
 

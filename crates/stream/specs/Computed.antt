@@ -1,4 +1,4 @@
--- A history of the voice itself, computed: two frames, the first of them cut, saved and resumed in the idle voice. Assumes nothing.
+-- Histories of the voice itself, computed: two frames, the first of them cut, saved and resumed in the idle voice. Assumes nothing.
 use mathlib.Core.Path.{_≡_, refl}
 use mathlib.Core.Bool.{false}
 use mathlib.Core.List.{List, [], _∷_}
@@ -22,6 +22,7 @@ use Rattle.pulse.specs.Train.{train, startOf, pulseOf, endOf}
 use Rattle.excitation.specs.Excitation.{plainStep, stepOf}
 use Rattle.vectors.specs.Vectors.{plus}
 use Rattle.fir.specs.Fir.{firOf}
+use Rattle.mlsa.specs.declared.MelLogSpectrumApproximation.{MelLogSpectrumApproximation}
 use Rattle.mlsa.specs.Mlsa.{weighed, firstRow, secondRow, downward, df1Of, df2Of, filter, dfOf}
 use Rattle.mglsa.specs.Mglsa.{freshRows}
 use Rattle.filter.specs.Sample.{sampleBy}
@@ -63,18 +64,18 @@ small = record {
   high = 0f;
 }
 
--- two voiced frames
-abbrev pub first : Frame
-first = frame 0f (0f ∷ 1f ∷ []) []
+-- voiced frames: a zero spectrum, and one that is not
+abbrev pub flat : Frame
+flat = frame 0f (0f ∷ 0f ∷ []) []
 
-abbrev pub second : Frame
-second = frame 0f (0f ∷ 0f ∷ []) []
+abbrev pub sloped : Frame
+sloped = frame 0f (0f ∷ 1f ∷ []) []
 
--- its records are 1,936 bytes
-abbrev pub story : List (Call (voiceCalls tries))
-story =
+-- two frames, of which the second is flat; the records are 1,936 bytes
+abbrev pub story : (first : Frame) → List (Call (voiceCalls tries))
+story first =
     give first
-    ∷ give second
+    ∷ give flat
     ∷ draw 1
     ∷ draw 0
     ∷ save 1935
@@ -82,18 +83,22 @@ story =
     ∷ resume 1936 idleVoice
     ∷ draw 9
     ∷ draw 9
-    ∷ wholeFrame second 2
+    ∷ wholeFrame flat 2
     ∷ []
 
 -- ---- WHAT IT COMES TO
 
--- the samples: a pulse at the first and at the fourth, and what the filter makes of the first in between
+-- the samples: a pulse at the first and at the fourth
 abbrev pub samples : List Float
-samples = 2f ∷ fin false 9006102177871765 (negsuc 51) ∷ fin false 9005005234626501 (negsuc 52) ∷ fin false 4878776555528403 (negsuc 50) ∷ []
+samples = 2f ∷ 0f ∷ 0f ∷ 2f ∷ []
 
--- the voice afterwards: four samples drawn, none left, and the second frame's coefficients reached
-abbrev pub end : Voice
-end = record {
+-- and what the filter makes of the first in between, where it is sloped
+abbrev pub sloped-samples : List Float
+sloped-samples = 2f ∷ fin false 9006102177871765 (negsuc 51) ∷ fin false 9005005234626501 (negsuc 52) ∷ fin false 4878776555528403 (negsuc 50) ∷ []
+
+-- the voice afterwards: four samples drawn, none left, and the flat frame's coefficients reached, by these increments and with these taps
+abbrev ended : (increments : List Float) → MelLogSpectrumApproximation → Voice
+ended increments zero = record {
   configuration = small;
   meter = 4;
   left = 0;
@@ -103,15 +108,23 @@ end = record {
   lpf = none;
   random = freshRandom;
   coefficients = none;
-  increments = 0f ∷ − ½f ∷ replicate 62 0f;
+  increments = increments;
   targets = none;
-  zero = filter
-      (0f ∷ fin false 1254066080604101 (negsuc 51) ∷ fin false 9006102177871765 (negsuc 52) ∷ 2f ∷ replicate 2 0f)
-      (fin false 4566555120087981 (negsuc 50) ∷ fin false 1254066080604101 (negsuc 52) ∷ fin false 9006102177871765 (negsuc 53) ∷ 1f ∷ replicate 2 0f)
-      (0f ∷ fin false 9005005234626501 (negsuc 52) ∷ replicate 382 0f)
-      (fin false 4878776555528403 (negsuc 50) ∷ replicate 5 0f);
+  zero = zero;
   nonzero = freshRows;
 }
+
+abbrev pub end : Voice
+end = ended none (filter (replicate 6 0f) (2f ∷ replicate 5 0f) (replicate 384 0f) (2f ∷ replicate 5 0f))
+
+abbrev pub sloped-end : Voice
+sloped-end =
+    ended (0f ∷ − ½f ∷ replicate 62 0f)
+    (filter
+    (0f ∷ fin false 1254066080604101 (negsuc 51) ∷ fin false 9006102177871765 (negsuc 52) ∷ 2f ∷ replicate 2 0f)
+    (fin false 4566555120087981 (negsuc 50) ∷ fin false 1254066080604101 (negsuc 52) ∷ fin false 9006102177871765 (negsuc 53) ∷ 1f ∷ replicate 2 0f)
+    (0f ∷ fin false 9005005234626501 (negsuc 52) ∷ replicate 382 0f)
+    (fin false 4878776555528403 (negsuc 50) ∷ replicate 5 0f))
 
 -- the numbers answered
 unfoldable pub numbers : List (Call (voiceCalls tries)) → Voice → List ℕ
@@ -127,15 +140,23 @@ pub story-opened : openNumber small ≡ 0
 unfolding tale
 story-opened = refl
 
-pub story-numbers : numbers story (openedVoice small) ≡ 0 ∷ 3 ∷ 0 ∷ 0 ∷ 12 ∷ 13 ∷ 0 ∷ 0 ∷ 10 ∷ 0 ∷ []
+pub story-numbers : numbers (story flat) (openedVoice small) ≡ 0 ∷ 3 ∷ 0 ∷ 0 ∷ 12 ∷ 13 ∷ 0 ∷ 0 ∷ 10 ∷ 0 ∷ []
 unfolding numbers tale
 story-numbers = refl
 
-pub story-told : told (voiceCalls tries) (answered (voiceCalls tries)) story (openedVoice small) ≡ record { frames = first ∷ second ∷ []; made = samples; state = end }
+pub story-told : told (voiceCalls tries) (answered (voiceCalls tries)) (story flat) (openedVoice small) ≡ record { frames = flat ∷ flat ∷ []; made = samples; state = end }
 unfolding tale
 story-told = refl
 
--- its frames, uncut: the same samples and the same voice
-pub story-uncut : uncut (voiceOf tries) (first ∷ second ∷ []) (openedVoice small) ≡ answer 0 samples end
+pub sloped-told : told (voiceCalls tries) (answered (voiceCalls tries)) (story sloped) (openedVoice small) ≡ record { frames = sloped ∷ flat ∷ []; made = sloped-samples; state = sloped-end }
+unfolding tale
+sloped-told = refl
+
+-- the frames, uncut: the same samples and the same voice
+pub story-uncut : uncut (voiceOf tries) (flat ∷ flat ∷ []) (openedVoice small) ≡ answer 0 samples end
 unfolding uncut framed tale
 story-uncut = refl
+
+pub sloped-uncut : uncut (voiceOf tries) (sloped ∷ flat ∷ []) (openedVoice small) ≡ answer 0 sloped-samples sloped-end
+unfolding uncut framed tale
+sloped-uncut = refl

@@ -1,22 +1,24 @@
 -- `all_forms_kept` meets its contract: four parts. Assumes nothing.
 use borrow.Author.Needs.{needs}
-use Rattle.slots.proofs.check.all_forms_kept.Statement.{statement}
-use Rattle.slots.proofs.check.all_forms_kept.Tie as tie
 use mathlib.Core.Path.{_≡_, refl, _∙_, ap}
 use Prim.Native.Nat.{_+_}
 use lib.ListN.{drop}
 use Rattle.refusing.specs.Refusal.{every}
 use Rattle.slots.specs.Sound.{oneForm}
 use Rattle.slots.proofs.ReadLaws.{to-the-end}
+use Rattle.slots.proofs.check.all_forms_kept.Statement.{statement}
+use Rattle.slots.proofs.check.all_forms_kept.Tie as tie
+use Rattle.slots.proofs.check.all_forms_kept.Reads as reads
+use Rattle.slots.proofs.check.all_forms_kept.Lts as lts
+use Rattle.slots.proofs.check.forms_kept.Reads as forms-kept-reads
+use Rattle.slots.proofs.places.noise_at.Reads as noise-at-reads
+use Rattle.slots.proofs.places.queue_at.Reads as queue-at-reads
 
-add-noise-at : tie.Need-add-noise-at
-add-noise-at c = search needs
+noise-at-requires : tie.Need-noise-at-requires
+noise-at-requires c κs = search needs
 
-add-noise-at-2 : tie.Need-add-noise-at-2
-add-noise-at-2 c = search needs
-
-add-queue-at : tie.Need-add-queue-at
-add-queue-at c = search needs
+queue-at-requires : tie.Need-queue-at-requires
+queue-at-requires c κs = search needs
 
 sub-forms-kept : tie.Need-sub-forms-kept
 sub-forms-kept c = search needs
@@ -71,17 +73,17 @@ forms-kept-requires-4 c κs = search needs
 
 returns : tie.Need-returns
 returns c =
-    let queue = 19 + c .before .before .before .before .before .before .before .before .before .args .nlpf + c .before .before .before .before .before .before .before .before .before .args .nlpf + 2 in
-    let last : c .forms-kept4 .result ≡ every oneForm (drop queue (c .before .before .before .before .before .before .before .before .before .args .slots .now)) = c .forms-kept4 .ensures ∙ ap (every oneForm) (to-the-end (c .before .before .before .before .before .before .before .before .before .args .slots .now) queue) in
-    rw (c .before .before .before .before .before .before .forms-kept .ensures, c .before .before .before .before .forms-kept2 .ensures, c .before .before .forms-kept3 .ensures, last) refl
+    let s = c .before .before .before .before .before .before .before .before .before .before .before in
+    let queue = c .before .before .before .before .before .before .before .before .queue-at .result in
+    let last : c .forms-kept4 .result ≡ every oneForm (drop queue (s .args .slots .now)) = c .forms-kept4 .ensures ∙ ap (every oneForm) (to-the-end (s .args .slots .now) queue) in
+    rw (c .before .before .before .before .before .before .forms-kept .ensures, c .before .before .before .before .forms-kept2 .ensures, c .before .before .forms-kept3 .ensures, last, c .before .before .before .before .before .before .before .before .queue-at .ensures, c .before .before .before .before .before .before .before .before .before .noise-at .ensures) refl
 
 pub all-forms-kept-spec : {M : Type 1} → statement M
 all-forms-kept-spec =
     tie.close
     (tie.spec
-    add-noise-at
-    add-noise-at-2
-    add-queue-at
+    noise-at-requires
+    queue-at-requires
     sub-forms-kept
     part-forms-kept-start
     part-forms-kept-end

@@ -1,9 +1,13 @@
 -- `configuration_in` meets its contract: slot by slot. Assumes nothing.
 use borrow.Author.Needs.{needs}
-use Rattle.slots.proofs.check.configuration_in.Statement.{statement}
-use Rattle.slots.proofs.check.configuration_in.Tie as tie
 use mathlib.Core.Path.{refl}
 use Rattle.slots.specs.Slots.{configurationIn}
+use Rattle.slots.proofs.check.configuration_in.Statement.{statement}
+use Rattle.slots.proofs.check.configuration_in.Tie as tie
+use Rattle.slots.proofs.check.configuration_in.Reads as reads
+use Rattle.slots.proofs.check.configuration_in.Lts as lts
+use Rattle.number.proofs.bits.float_of.Reads as float-of-reads
+use Rattle.slots.proofs.places.is_set.Reads as is-set-reads
 
 shared-slice-read-t3 : tie.Need-shared-slice-read-t3
 shared-slice-read-t3 c = search needs
@@ -14,8 +18,11 @@ shared-slice-read-t6 c = search needs
 shared-slice-read-t9 : tie.Need-shared-slice-read-t9
 shared-slice-read-t9 c = search needs
 
-shared-slice-read-t11 : tie.Need-shared-slice-read-t11
-shared-slice-read-t11 c = search needs
+shared-slice-read-is-set : tie.Need-shared-slice-read-is-set
+shared-slice-read-is-set c = search needs
+
+is-set-requires : tie.Need-is-set-requires
+is-set-requires c κs = search needs
 
 shared-slice-read-t14 : tie.Need-shared-slice-read-t14
 shared-slice-read-t14 c = search needs
@@ -61,7 +68,7 @@ float-of-requires-6 c κs = search needs
 
 returns : tie.Need-returns
 unfolding configurationIn
-returns c = rw (c .before .before .before .before .before .before .before .before .before .before .before .float-of .ensures, c .before .before .before .before .before .before .before .before .before .float-of2 .ensures, c .before .before .before .before .before .before .before .float-of3 .ensures, c .before .before .before .before .float-of4 .ensures, c .before .before .float-of5 .ensures, c .float-of6 .ensures) refl
+returns c = rw (c .before .before .before .before .before .before .before .before .before .before .before .before .before .before .is-set .ensures, c .before .before .before .before .before .before .before .before .before .before .before .float-of .ensures, c .before .before .before .before .before .before .before .before .before .float-of2 .ensures, c .before .before .before .before .before .before .before .float-of3 .ensures, c .before .before .before .before .float-of4 .ensures, c .before .before .float-of5 .ensures, c .float-of6 .ensures) refl
 
 pub configuration-in-spec : {M : Type 1} → statement M
 configuration-in-spec =
@@ -70,7 +77,8 @@ configuration-in-spec =
     shared-slice-read-t3
     shared-slice-read-t6
     shared-slice-read-t9
-    shared-slice-read-t11
+    shared-slice-read-is-set
+    is-set-requires
     shared-slice-read-t14
     shared-slice-read-float-of
     float-of-requires

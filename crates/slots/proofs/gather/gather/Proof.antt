@@ -1,92 +1,85 @@
 -- `gather` meets its contract: the parts stand one after the other. Assumes nothing.
 use borrow.Author.Needs.{needs}
-use Rattle.slots.proofs.gather.gather.Statement.{statement}
-use Rattle.slots.proofs.gather.gather.Tie as tie
 use native.Mathlib.Omega.{arith}
 use Rattle.configuration.proofs.LimitsLaws.{Sizes, sizes}
 use Rattle.slots.proofs.CountLaws.{Long, held-long, count-parts}
 use Rattle.slots.proofs.GatherLaws.{gathered}
+use Rattle.slots.proofs.gather.gather.Statement.{statement}
+use Rattle.slots.proofs.gather.gather.Tie as tie
+use Rattle.slots.proofs.gather.gather.Reads as reads
+use Rattle.slots.proofs.gather.gather.Lts as lts
+use Rattle.slots.proofs.gather.put_excitation.Reads as put-excitation-reads
+use Rattle.slots.proofs.gather.put_head.Reads as put-head-reads
+use Rattle.slots.proofs.gather.put_nonzero.Reads as put-nonzero-reads
+use Rattle.slots.proofs.gather.put_spectrum.Reads as put-spectrum-reads
+use Rattle.slots.proofs.gather.put_zero.Reads as put-zero-reads
+use Rattle.slots.proofs.places.filter_at.Reads as filter-at-reads
+use Rattle.slots.proofs.places.spectrum_at.Reads as spectrum-at-reads
 
--- the arrays' lengths
+-- the arrays' lengths, and the limits
 long : (c : tie.Start) → Long (c .args .voice)
 long c = held-long (c .args .voice) _ (c .good .0)
 
 small : (c : tie.Start) → Sizes (c .args .voice .configuration)
 small c = sizes (c .args .voice .configuration) (c .pre .0)
 
-add-spectrum-at : tie.Need-add-spectrum-at
-add-spectrum-at c = record { fits = omega (arith, small (c .before .before .before) .nlpf-most) }
-
-add-spectrum-at-2 : tie.Need-add-spectrum-at-2
-add-spectrum-at-2 c = record { fits = omega (arith, small (c .before .before .before .before) .nlpf-most) }
-
-add-spectrum-at-3 : tie.Need-add-spectrum-at-3
-add-spectrum-at-3 c = record { fits = omega (arith, small (c .before .before .before .before) .nlpf-most) }
-
-add-filter-at : tie.Need-add-filter-at
-add-filter-at c =
-    let s = c .before .before .before .before .before in
-    record { fits = omega (arith, small s .nlpf-most, small s .nmcp-most) }
-
-add-filter-at-2 : tie.Need-add-filter-at-2
-add-filter-at-2 c =
-    let s = c .before .before .before .before .before .before in
-    record { fits = omega (arith, small s .nlpf-most, small s .nmcp-most) }
-
-add-filter-at-3 : tie.Need-add-filter-at-3
-add-filter-at-3 c =
-    let s = c .before .before .before .before .before .before .before in
-    record { fits = omega (arith, small s .nlpf-most, small s .nmcp-most) }
-
 put-head-requires : tie.Need-put-head-requires
-put-head-requires c κs = omega (arith, count-parts (c .before .before .before .before .before .before .before .before .args .voice .configuration))
+put-head-requires c κs = omega (arith, count-parts (c .before .before .before .args .voice .configuration))
 
 put-excitation-requires : tie.Need-put-excitation-requires
-put-excitation-requires c κs =
-    let s = c .before .before .before .before .before .before .before .before .before .before .before .before in
-    (s .pre .0, omega (arith, count-parts (s .args .voice .configuration)))
+put-excitation-requires c κs = let s = c .before .before .before .before .before .before .before in (s .pre .0, omega (arith, count-parts (s .args .voice .configuration)))
+
+spectrum-at-requires : tie.Need-spectrum-at-requires
+spectrum-at-requires c κs = small (c .before .before .before .before .before .before .before .before .before .before .before) .nlpf-most
 
 put-spectrum-requires : tie.Need-put-spectrum-requires
 put-spectrum-requires c κs =
-    let s = c .before .before .before .before .before .before .before .before .before .before .before .before .before .before .before .before in
-    (s .pre .0, omega (arith, count-parts (s .args .voice .configuration)))
+    let s = c .before .before .before .before .before .before .before .before .before .before .before .before in
+    (s .pre .0, omega (arith, count-parts (s .args .voice .configuration), c .spectrum-at .ensures))
+
+filter-at-requires : tie.Need-filter-at-requires
+filter-at-requires c κs = let f = small (c .before .before .before .before .before .before .before .before .before .before .before .before .before .before .before .before .before .before) in (f .nlpf-most, f .nmcp-most)
 
 put-zero-requires : tie.Need-put-zero-requires
-put-zero-requires c κs = (c .before .before .before .before .before .before .before .before .before .before .before .before .before .before .before .before .before .before .before .before .before .before .pre .0, omega (arith, c .before .if1 .taken), omega (arith, count-parts (c .before .before .before .before .before .before .before .before .before .before .before .before .before .before .before .before .before .before .before .before .before .before .args .voice .configuration)))
+put-zero-requires c κs =
+    let s = c .before .before .before .before .before .before .before .before .before .before .before .before .before .before .before .before .before .before .before in
+    (s .pre .0, omega (arith, c .before .before .if1 .taken), omega (arith, count-parts (s .args .voice .configuration), c .filter-at .ensures, c .before .before .before .before .before .before .before .before .before .before .before .before .before .before .before .put-head .kept .1 .0, c .before .before .before .before .before .before .before .before .before .before .before .put-excitation .kept .1 .0, c .before .before .before .before .before .before .put-spectrum .kept .1 .0))
+
+filter-at-requires-2 : tie.Need-filter-at-requires-2
+filter-at-requires-2 c κs = let f = small (c .before .before .before .before .before .before .before .before .before .before .before .before .before .before .before .before .before .before) in (f .nlpf-most, f .nmcp-most)
 
 put-nonzero-requires : tie.Need-put-nonzero-requires
-put-nonzero-requires c κs = (c .before .before .before .before .before .before .before .before .before .before .before .before .before .before .before .before .before .before .before .before .before .before .pre .0, omega (arith, c .before .if1 .left), omega (arith, count-parts (c .before .before .before .before .before .before .before .before .before .before .before .before .before .before .before .before .before .before .before .before .before .before .args .voice .configuration)))
+put-nonzero-requires c κs =
+    let s = c .before .before .before .before .before .before .before .before .before .before .before .before .before .before .before .before .before .before .before in
+    (s .pre .0, omega (arith, c .before .before .if1 .left), omega (arith, count-parts (s .args .voice .configuration), c .filter-at2 .ensures, c .before .before .before .before .before .before .before .before .before .before .before .before .before .before .before .put-head .kept .1 .0, c .before .before .before .before .before .before .before .before .before .before .before .put-excitation .kept .1 .0, c .before .before .before .before .before .before .put-spectrum .kept .1 .0))
 
 same-length : tie.Need-same-length
 same-length c = search needs
 
 returns : tie.Need-returns
 returns c =
-    let s = c .before .before .before .before .before .before .before .before .before .before .before .before .before .before .before .before .before .before .before .before .before .before .before .before .before in
-    gathered (s .args .voice) (long s) _ _ _ _ (s .pre .0) _ (c .before .before .before .before .before .before .before .before .before .before .before .before .before .before .before .before .put-head .ensures) (c .before .before .before .before .before .before .before .before .before .before .before .before .put-excitation .ensures) (c .before .before .before .before .before .before .before .before .put-spectrum .ensures) (c .before .before .put-zero .ensures)
+    let s = c .before .before .before .before .before .before .before .before .before .before .before .before .before .before .before .before .before .before .before .before .before .before in
+    gathered (s .args .voice) (long s) _ _ _ _ (s .pre .0) _ (c .before .before .before .before .before .before .before .before .before .before .before .before .before .before .before .before .before .before .put-head .ensures) (c .before .before .before .before .before .before .before .before .before .before .before .before .before .before .put-excitation .ensures) (rw (c .before .before .before .before .before .before .before .before .before .before .spectrum-at .ensures) at (c .before .before .before .before .before .before .before .before .before .put-spectrum .ensures)) (rw (c .before .before .before .filter-at .ensures) at (c .before .before .put-zero .ensures))
 
 same-length-2 : tie.Need-same-length-2
 same-length-2 c = search needs
 
 returns-2 : tie.Need-returns-2
 returns-2 c =
-    let s = c .before .before .before .before .before .before .before .before .before .before .before .before .before .before .before .before .before .before .before .before .before .before .before .before .before in
-    gathered (s .args .voice) (long s) _ _ _ _ (s .pre .0) _ (c .before .before .before .before .before .before .before .before .before .before .before .before .before .before .before .before .put-head .ensures) (c .before .before .before .before .before .before .before .before .before .before .before .before .put-excitation .ensures) (c .before .before .before .before .before .before .before .before .put-spectrum .ensures) (c .before .before .put-nonzero .ensures)
+    let s = c .before .before .before .before .before .before .before .before .before .before .before .before .before .before .before .before .before .before .before .before .before .before in
+    gathered (s .args .voice) (long s) _ _ _ _ (s .pre .0) _ (c .before .before .before .before .before .before .before .before .before .before .before .before .before .before .before .before .before .before .put-head .ensures) (c .before .before .before .before .before .before .before .before .before .before .before .before .before .before .put-excitation .ensures) (rw (c .before .before .before .before .before .before .before .before .before .before .spectrum-at .ensures) at (c .before .before .before .before .before .before .before .before .before .put-spectrum .ensures)) (rw (c .before .before .before .filter-at2 .ensures) at (c .before .before .put-nonzero .ensures))
 
 pub gather-spec : {M : Type 1} → statement M
 gather-spec =
     tie.close
     (tie.spec
-    add-spectrum-at
-    add-spectrum-at-2
-    add-spectrum-at-3
-    add-filter-at
-    add-filter-at-2
-    add-filter-at-3
     put-head-requires
     put-excitation-requires
+    spectrum-at-requires
     put-spectrum-requires
+    filter-at-requires
     put-zero-requires
+    filter-at-requires-2
     put-nonzero-requires
     same-length
     returns

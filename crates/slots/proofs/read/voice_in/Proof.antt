@@ -1,12 +1,27 @@
 -- `voice_in` meets its contract: part by part. Assumes nothing.
-use Rattle.slots.proofs.read.voice_in.Statement.{statement}
-use Rattle.slots.proofs.read.voice_in.Tie as tie
+use borrow.Author.Needs.{needs}
 use mathlib.Core.Path.{ap}
 use native.Mathlib.Omega.{arith}
 use lib.ListN.{length}
 use Rattle.configuration.specs.declared.Configuration.{Configuration}
 use Rattle.slots.specs.Slots.{voiceWith}
 use Rattle.slots.proofs.SoundLaws.{Room, room-of, sound-of}
+use Rattle.slots.proofs.read.voice_in.Statement.{statement}
+use Rattle.slots.proofs.read.voice_in.Tie as tie
+use Rattle.slots.proofs.read.voice_in.Reads as reads
+use Rattle.slots.proofs.read.voice_in.Lts as lts
+use Rattle.slots.proofs.check.configuration_in.Reads as configuration-in-reads
+use Rattle.slots.proofs.places.filter_at.Reads as filter-at-reads
+use Rattle.slots.proofs.places.increments_at.Reads as increments-at-reads
+use Rattle.slots.proofs.places.is_set.Reads as is-set-reads
+use Rattle.slots.proofs.places.noise_at.Reads as noise-at-reads
+use Rattle.slots.proofs.places.spectrum_at.Reads as spectrum-at-reads
+use Rattle.slots.proofs.places.targets_at.Reads as targets-at-reads
+use Rattle.slots.proofs.read.array_in.Reads as array-in-reads
+use Rattle.slots.proofs.read.nonzero_of.Reads as nonzero-of-reads
+use Rattle.slots.proofs.read.pulse_in.Reads as pulse-in-reads
+use Rattle.slots.proofs.read.random_in.Reads as random-in-reads
+use Rattle.slots.proofs.read.zero_of.Reads as zero-of-reads
 
 -- what is known of the configuration
 here : (c : tie.After-configuration-in) → Room (c .configuration-in .result) (length (c .before .before .args .slots .now))
@@ -15,100 +30,90 @@ here c = room-of _ _ (c .before .before .pre) (c .configuration-in .ensures)
 configuration-in-requires : tie.Need-configuration-in-requires
 configuration-in-requires c κs = let all = sound-of _ (c .before .pre) in omega (arith, all .room)
 
-add-noise-at : tie.Need-add-noise-at
-add-noise-at c = let f = here c in record { fits = omega (arith, f .nmcp, f .nlpf) }
+filter-at-requires : tie.Need-filter-at-requires
+filter-at-requires c κs = (here c .nlpf, here c .nmcp)
 
-add-noise-at-2 : tie.Need-add-noise-at-2
-add-noise-at-2 c = let f = here c in record { fits = omega (arith, f .nmcp, f .nlpf) }
+shared-slice-read-t7 : tie.Need-shared-slice-read-t7
+shared-slice-read-t7 c = let f = here (c .before .before) in omega (arith, f .room)
 
-add-spectrum-at : tie.Need-add-spectrum-at
-add-spectrum-at c = let f = here c in record { fits = omega (arith, f .nmcp, f .nlpf) }
+shared-slice-read-t9 : tie.Need-shared-slice-read-t9
+shared-slice-read-t9 c = let f = here (c .before .before .before) in omega (arith, f .room)
 
-add-filter-at : tie.Need-add-filter-at
-add-filter-at c = let f = here c in record { fits = omega (arith, f .nmcp, f .nlpf) }
+shared-slice-read-is-set : tie.Need-shared-slice-read-is-set
+shared-slice-read-is-set c = let f = here (c .before .before .before .before) in omega (arith, f .room)
 
-add-filter-at-2 : tie.Need-add-filter-at-2
-add-filter-at-2 c = let f = here c in record { fits = omega (arith, f .nmcp, f .nlpf) }
-
-add-filter-at-3 : tie.Need-add-filter-at-3
-add-filter-at-3 c = let f = here c in record { fits = omega (arith, f .nmcp, f .nlpf) }
-
-shared-slice-read-t11 : tie.Need-shared-slice-read-t11
-shared-slice-read-t11 c = let f = here (c .before) in omega (arith, f .room)
-
-shared-slice-read-t13 : tie.Need-shared-slice-read-t13
-shared-slice-read-t13 c = let f = here (c .before .before) in omega (arith, f .room)
-
-shared-slice-read-t15 : tie.Need-shared-slice-read-t15
-shared-slice-read-t15 c = let f = here (c .before .before .before) in omega (arith, f .room)
+is-set-requires : tie.Need-is-set-requires
+is-set-requires c κs = search needs
 
 pulse-in-requires : tie.Need-pulse-in-requires
-pulse-in-requires c κs = let f = here (c .before .before .before) in omega (arith, f .room)
+pulse-in-requires c κs = let f = here (c .before .before .before .before .before) in omega (arith, f .room)
 
 array-in-requires : tie.Need-array-in-requires
-array-in-requires c κs = let f = here (c .before .before .before .before) in (f .nlpf, omega (arith, f .room))
+array-in-requires c κs = let f = here (c .before .before .before .before .before .before) in (f .nlpf, omega (arith, f .room))
 
 add-array-in : tie.Need-add-array-in
-add-array-in c = let f = here (c .before .before .before .before .before) in record { fits = omega (arith, f .nmcp, f .nlpf) }
+add-array-in c = let f = here (c .before .before .before .before .before .before .before) in record { fits = omega (arith, f .nmcp, f .nlpf) }
 
 array-in-requires-2 : tie.Need-array-in-requires-2
-array-in-requires-2 c κs = let f = here (c .before .before .before .before .before) in (f .nlpf, omega (arith, f .room))
+array-in-requires-2 c κs = let f = here (c .before .before .before .before .before .before .before) in (f .nlpf, omega (arith, f .room))
+
+noise-at-requires : tie.Need-noise-at-requires
+noise-at-requires c κs = here (c .before .before .before .before .before .before .before .before) .nlpf
 
 random-in-requires : tie.Need-random-in-requires
-random-in-requires c κs = let f = here (c .before .before .before .before .before .before) in omega (arith, f .room)
+random-in-requires c κs = let f = here (c .before .before .before .before .before .before .before .before .before) in omega (arith, f .room, c .noise-at .ensures)
+
+spectrum-at-requires : tie.Need-spectrum-at-requires
+spectrum-at-requires c κs = here (c .before .before .before .before .before .before .before .before .before .before) .nlpf
 
 array-in-requires-3 : tie.Need-array-in-requires-3
-array-in-requires-3 c κs = let f = here (c .before .before .before .before .before .before .before) in (f .nmcp, omega (arith, f .room))
+array-in-requires-3 c κs = let f = here (c .before .before .before .before .before .before .before .before .before .before .before) in (f .nmcp, omega (arith, f .room, c .spectrum-at .ensures))
 
-add-array-in-2 : tie.Need-add-array-in-2
-add-array-in-2 c = let f = here (c .before .before .before .before .before .before .before .before) in record { fits = omega (arith, f .nmcp, f .nlpf) }
+increments-at-requires : tie.Need-increments-at-requires
+increments-at-requires c κs = let f = here (c .before .before .before .before .before .before .before .before .before .before .before .before) in (f .nlpf, f .nmcp)
 
 array-in-requires-4 : tie.Need-array-in-requires-4
-array-in-requires-4 c κs = let f = here (c .before .before .before .before .before .before .before .before) in (f .nmcp, omega (arith, f .room))
+array-in-requires-4 c κs = let f = here (c .before .before .before .before .before .before .before .before .before .before .before .before .before) in (f .nmcp, omega (arith, f .room, c .increments-at .ensures))
 
-add-array-in-3 : tie.Need-add-array-in-3
-add-array-in-3 c = let f = here (c .before .before .before .before .before .before .before .before .before) in record { fits = omega (arith, f .nmcp, f .nlpf) }
-
-add-array-in-4 : tie.Need-add-array-in-4
-add-array-in-4 c = let f = here (c .before .before .before .before .before .before .before .before .before) in record { fits = omega (arith, f .nmcp, f .nlpf) }
+targets-at-requires : tie.Need-targets-at-requires
+targets-at-requires c κs = let f = here (c .before .before .before .before .before .before .before .before .before .before .before .before .before .before) in (f .nlpf, f .nmcp)
 
 array-in-requires-5 : tie.Need-array-in-requires-5
-array-in-requires-5 c κs = let f = here (c .before .before .before .before .before .before .before .before .before) in (f .nmcp, omega (arith, f .room))
+array-in-requires-5 c κs = let f = here (c .before .before .before .before .before .before .before .before .before .before .before .before .before .before .before) in (f .nmcp, omega (arith, f .room, c .targets-at .ensures))
 
 zero-of-requires : tie.Need-zero-of-requires
-zero-of-requires c κs = let f = here (c .before .before .before .before .before .before .before .before .before .before) in (f .limits, omega (arith, f .room))
+zero-of-requires c κs = let f = here (c .before .before .before .before .before .before .before .before .before .before .before .before .before .before .before .before) in (f .limits, omega (arith, f .room, c .before .before .before .before .before .before .before .before .before .before .before .before .before .before .before .filter-at .ensures))
 
 nonzero-of-requires : tie.Need-nonzero-of-requires
-nonzero-of-requires c κs = let f = here (c .before .before .before .before .before .before .before .before .before .before .before) in (f .limits, omega (arith, f .room))
+nonzero-of-requires c κs = let f = here (c .before .before .before .before .before .before .before .before .before .before .before .before .before .before .before .before .before) in (f .limits, omega (arith, f .room, c .before .before .before .before .before .before .before .before .before .before .before .before .before .before .before .before .filter-at .ensures))
 
 returns : tie.Need-returns
 unfolding voiceWith
-returns c = rw (c .before .before .before .before .before .before .before .before .pulse-in .ensures, c .before .before .before .before .before .before .before .array-in .ensures, c .before .before .before .before .before .before .array-in2 .ensures, c .before .before .before .before .before .random-in .ensures, c .before .before .before .before .array-in3 .ensures, c .before .before .before .array-in4 .ensures, c .before .before .array-in5 .ensures, c .before .zero-of .ensures, c .nonzero-of .ensures) (ap (λ (k : Configuration). voiceWith k (c .before .before .before .before .before .before .before .before .before .before .before .before .before .before .args .slots .now)) (c .before .before .before .before .before .before .before .before .before .before .before .before .configuration-in .ensures))
+returns c =
+    let slots = c .before .before .before .before .before .before .before .before .before .before .before .before .before .before .before .before .before .before .before .before .args .slots .now in
+    rw (c .before .before .before .before .before .before .before .before .before .before .before .before .pulse-in .ensures, c .before .before .before .before .before .before .before .before .before .before .before .before .before .is-set .ensures, c .before .before .before .before .before .before .before .before .before .before .before .array-in .ensures, c .before .before .before .before .before .before .before .before .before .before .array-in2 .ensures, c .before .before .before .before .before .before .before .before .random-in .ensures, c .before .before .before .before .before .before .before .before .before .noise-at .ensures, c .before .before .before .before .before .before .array-in3 .ensures, c .before .before .before .before .before .before .before .spectrum-at .ensures, c .before .before .before .before .array-in4 .ensures, c .before .before .before .before .before .increments-at .ensures, c .before .before .array-in5 .ensures, c .before .before .before .targets-at .ensures, c .before .zero-of .ensures, c .nonzero-of .ensures, c .before .before .before .before .before .before .before .before .before .before .before .before .before .before .before .before .before .filter-at .ensures) (ap (λ (k : Configuration). voiceWith k slots) (c .before .before .before .before .before .before .before .before .before .before .before .before .before .before .before .before .before .before .configuration-in .ensures))
 
 pub voice-in-spec : {M : Type 1} → statement M
 voice-in-spec =
     tie.close
     (tie.spec
     configuration-in-requires
-    add-noise-at
-    add-noise-at-2
-    add-spectrum-at
-    add-filter-at
-    add-filter-at-2
-    add-filter-at-3
-    shared-slice-read-t11
-    shared-slice-read-t13
-    shared-slice-read-t15
+    filter-at-requires
+    shared-slice-read-t7
+    shared-slice-read-t9
+    shared-slice-read-is-set
+    is-set-requires
     pulse-in-requires
     array-in-requires
     add-array-in
     array-in-requires-2
+    noise-at-requires
     random-in-requires
+    spectrum-at-requires
     array-in-requires-3
-    add-array-in-2
+    increments-at-requires
     array-in-requires-4
-    add-array-in-3
-    add-array-in-4
+    targets-at-requires
     array-in-requires-5
     zero-of-requires
     nonzero-of-requires

@@ -11,11 +11,11 @@ use Rattle.configuration.specs.declared.Configuration.{Configuration}
 use Rattle.configuration.specs.Limits.{limitsKept}
 use Rattle.refusing.specs.Refusal.{every}
 use Rattle.voice.specs.declared.Voice.{Voice}
 use Rattle.slots.specs.Slots.{bits, filterValues, valuesOf, noiseAt}
 use Rattle.slots.specs.Sound.{oneForm, between, formsKept}
 use Rattle.slots.proofs.CountLaws.{Long, line-count, lpf-count}
-use Rattle.slots.proofs.PartLaws.{part-here, noiseOn, queueOn, coefficientsOn, incrementsOn, targetsOn, from-queue}
-use Rattle.slots.proofs.StayLaws.{Same, AllStay, front-stays, one-forms, every-both}
+use Rattle.trips.proofs.PartLaws.{part-here, noiseOn, queueOn, coefficientsOn, incrementsOn, targetsOn, from-queue}
+use Rattle.trips.proofs.StayLaws.{Same, AllStay, front-stays, one-forms, every-both}
 
 -- floats, or the front of an array of them, and more behind
 module _ (xs : List Float) (rest : List ℕ) (stay : AllStay xs) (more : every oneForm rest ≡ true) where

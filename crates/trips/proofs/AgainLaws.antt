@@ -9,14 +9,14 @@ use lib.ListN.{length, getD}
 use Rattle.number.proofs.Floats.{both-first, both-second}
 use Rattle.configuration.specs.declared.Configuration.{Configuration}
 use Rattle.voice.specs.Voice.{idle}
 use Rattle.slots.specs.Slots.{headValues, valuesOf, slotAt, noiseAt, configurationIn, pulseIn, randomIn, voiceWith, voiceIn}
 use Rattle.slots.specs.Sound.{sound}
-use Rattle.slots.specs.Clean.{Clean}
+use Rattle.trips.specs.Clean.{Clean}
 use Rattle.slots.proofs.CountLaws.{Long}
 use Rattle.slots.proofs.SoundLaws.{Room, room-of, sound-of}
-use Rattle.slots.proofs.StandLaws.{flag-back, Back, Stands, stands-on, slot-stands, none-stands, stands-all}
-use Rattle.slots.proofs.StandParts.{fits, controls-back, pitches-back, taps-back, excitation-stands, spectrum-stands, filter-stands}
-use Rattle.slots.proofs.MadeLaws.{clean-with, long-with}
+use Rattle.trips.proofs.StandLaws.{flag-back, Back, Stands, stands-on, slot-stands, none-stands, stands-all}
+use Rattle.trips.proofs.StandParts.{fits, controls-back, pitches-back, taps-back, excitation-stands, spectrum-stands, filter-stands}
+use Rattle.trips.proofs.MadeLaws.{clean-with, long-with}
 
 module _ (ws : List ℕ) (e : sound ws ≡ true) where
   abbrev c : Configuration

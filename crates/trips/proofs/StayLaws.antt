@@ -11,9 +11,9 @@ use Rattle.number.proofs.Floats.{both-first, both-second}
 use Rattle.number.proofs.BitLaws.{other-nan-lost}
 use Rattle.refusing.specs.Refusal.{every}
 use Rattle.voice.specs.declared.Voice.{Voice}
 use Rattle.slots.specs.Slots.{bits, floatsAt}
 use Rattle.slots.specs.Sound.{oneForm}
-use Rattle.slots.proofs.PartLaws.{part-here}
+use Rattle.trips.proofs.PartLaws.{part-here}
 
 -- x comes back from its bits, as every f64 does
 abbrev pub Stays : Float → Type 0

@@ -16,11 +16,11 @@ use Rattle.mglsa.specs.declared.MelGeneralizedLogSpectrumApproximation.{MelGene
 use Rattle.mglsa.specs.Mglsa.{freshRows}
 use Rattle.configuration.specs.declared.Configuration.{Configuration}
 use Rattle.voice.specs.Voice.{none, inFront}
 use Rattle.slots.specs.Slots.{bits, excitationValues, spectrumValues, filterValues, slotAt, floatsAt, randomIn, zeroIn, nonzeroIn, voiceWith, lpfAt, noiseAt, queueAt, spectrumAt, filterAt}
 use Rattle.slots.specs.Sound.{oneForm, between, formsKept}
 use Rattle.slots.proofs.ReadLaws.{to-the-end}
 use Rattle.slots.proofs.SoundLaws.{Room}
-use Rattle.slots.proofs.StandLaws.{Back, range-back, Stands, stands-on, slot-stands, floats-stand, array-stands}
+use Rattle.trips.proofs.StandLaws.{Back, range-back, Stands, stands-on, slot-stands, floats-stand, array-stands}
 
 module _ (ws : List ℕ) (c : Configuration) where
   -- nmcp and nlpf, the rows of the other stages, and where the filter begins

@@ -13,11 +13,11 @@ use Rattle.configuration.specs.declared.Configuration.{Configuration}
 use Rattle.configuration.specs.Limits.{limitsKept}
 use Rattle.voice.specs.declared.Voice.{Voice}
 use Rattle.voice.specs.Voice.{inFront}
 use Rattle.slots.specs.Slots.{bits, zeroIn, nonzeroIn}
-use Rattle.slots.specs.Clean.{zerosFrom}
+use Rattle.trips.specs.Clean.{zerosFrom}
 use Rattle.slots.proofs.CountLaws.{Long, d21-count, d-count}
-use Rattle.slots.proofs.PartLaws.{rest-after}
-use Rattle.slots.proofs.StayLaws.{Same, front-stays, read-back}
+use Rattle.trips.proofs.PartLaws.{rest-after}
+use Rattle.trips.proofs.StayLaws.{Same, front-stays, read-back}
 
 -- from a place on, slots hold the filter of stage 0 or that of the others, as b says
 module _ (v : Voice) (long : Long v) (kept : limitsKept (v .configuration) ≡ true) (same : Same v) (ws : List ℕ) (at : ℕ) where

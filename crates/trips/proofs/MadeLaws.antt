@@ -15,12 +15,12 @@ use Rattle.mglsa.specs.Mglsa.{freshRows}
 use Rattle.configuration.specs.declared.Configuration.{Configuration}
 use Rattle.voice.specs.Voice.{none, inFront}
 use Rattle.voice.proofs.FrontLaws.{front-of}
 use Rattle.slots.specs.Slots.{floatsAt, randomIn, zeroIn, nonzeroIn, voiceWith, lpfAt, noiseAt, spectrumAt, filterAt}
-use Rattle.slots.specs.Clean.{zerosFrom, cleanZero, cleanNonzero, Clean}
+use Rattle.trips.specs.Clean.{zerosFrom, cleanZero, cleanNonzero, Clean}
 use Rattle.slots.proofs.CountLaws.{Long, rows-most}
 use Rattle.slots.proofs.ReadLaws.{length-read}
 use Rattle.slots.proofs.SoundLaws.{Room}
-use Rattle.slots.proofs.StandParts.{zeroBy, nonzeroBy, EndsBy, fits}
+use Rattle.trips.proofs.StandParts.{zeroBy, nonzeroBy, EndsBy, fits}
 
 -- floats in front of an array
 module _ (ws : List ℕ) (array : List Float) (at n : ℕ) (fits : at + n ≤ length ws) where

@@ -14,16 +14,16 @@ use Rattle.voice.specs.declared.Voice.{Voice}
 use Rattle.refusing.specs.Refusal.{every}
 use Rattle.voice.specs.Voice.{atRest, freshVoice, none, inFront, acceptable}
 use Rattle.voice.proofs.IdleLaws.{kept-of}
 use Rattle.slots.specs.Slots.{bits, flag, filterValues, valuesOf, arrayAt, configurationIn, lpfAt, noiseAt, queueAt, spectrumAt, filterAt, pulseIn, randomIn, zeroIn, nonzeroIn, voiceWith, voiceIn, countOf}
 use Rattle.slots.specs.Sound.{oneForm, flagsKept, rulesKept, sound}
-use Rattle.slots.specs.Clean.{zerosFrom, cleanZero, cleanNonzero, Clean}
+use Rattle.trips.specs.Clean.{zerosFrom, cleanZero, cleanNonzero, Clean}
 use Rattle.slots.proofs.CountLaws.{Long, line-count, lpf-count, coefficients-count, increments-count, targets-count, length-valuesOf}
-use Rattle.slots.proofs.PartLaws.{lpfOn, noiseOn, coefficientsOn, incrementsOn, targetsOn, from-line, from-lpf, from-queue, from-coefficients, from-increments, from-targets, from-filter, next-there, used-there}
-use Rattle.slots.proofs.StayLaws.{AllStay, front-stays, read-back}
-pub use Rattle.slots.proofs.StayLaws.{Same}
-use Rattle.slots.proofs.FilterLaws.{zero-back, nonzero-back}
-use Rattle.slots.proofs.FormLaws.{forms-back}
+use Rattle.trips.proofs.PartLaws.{lpfOn, noiseOn, coefficientsOn, incrementsOn, targetsOn, from-line, from-lpf, from-queue, from-coefficients, from-increments, from-targets, from-filter, next-there, used-there}
+use Rattle.trips.proofs.StayLaws.{AllStay, front-stays, read-back}
+pub use Rattle.trips.proofs.StayLaws.{Same}
+use Rattle.trips.proofs.FilterLaws.{zero-back, nonzero-back}
+use Rattle.trips.proofs.FormLaws.{forms-back}
 use Rattle.slots.proofs.SoundLaws.{sound-where}
 
 -- a flag is read as the bool that it was
 pub flag-back : (b : Bool) → not (eqb (flag b) 0) ≡ b

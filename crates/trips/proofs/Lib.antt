@@ -1,0 +1,9 @@
+pub mod StandLaws
+pub mod StandParts
+pub mod MadeLaws
+pub mod AgainLaws
+pub mod PartLaws
+pub mod StayLaws
+pub mod FilterLaws
+pub mod FormLaws
+pub mod BackLaws

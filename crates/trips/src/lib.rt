@@ -1,0 +1,1 @@
+// A voice and its slots, there and back: laws alone, and no code.
