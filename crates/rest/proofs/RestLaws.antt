@@ -22,7 +22,7 @@ use Rattle.records.proofs.TripLaws.{length-encoded}
 use Rattle.slots.specs.Slots.{valuesOf, countOf, configurationIn, voiceIn}
 use Rattle.slots.specs.Sound.{sound}
 use Rattle.slots.proofs.CountLaws.{Long, length-valuesOf, count-least, count-most}
-use Rattle.slots.proofs.SoundLaws.{sound-of}
+use Rattle.reading.proofs.SoundLaws.{sound-of}
 use Rattle.rest.specs.Rest.{recordsOf, saveNumber, Saves, recordCount, slotsIn, accepted, restored, Restores}
 
 -- ---- save

@@ -1,4 +1,2 @@
 pub mod CountLaws
 pub mod GatherLaws
-pub mod ReadLaws
-pub mod SoundLaws

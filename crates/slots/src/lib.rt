@@ -1,8 +1,6 @@
-// A voice as the values of its slots, in the order of the rest records, and back.
-pub mod check;
+// A voice as the values of its slots, in the order of the rest records.
 pub mod gather;
-mod places;
-pub mod read;
+pub mod places;
 
 ghost use mathlib.Core.Bool.{true};
 ghost use mathlib.Core.Path.{_≡_};

@@ -13,7 +13,7 @@ use Rattle.slots.specs.Slots.{headValues, valuesOf, slotAt, noiseAt, configurat
 use Rattle.slots.specs.Sound.{sound}
 use Rattle.trips.specs.Clean.{Clean}
 use Rattle.slots.proofs.CountLaws.{Long}
-use Rattle.slots.proofs.SoundLaws.{Room, room-of, sound-of}
+use Rattle.reading.proofs.SoundLaws.{Room, room-of, sound-of}
 use Rattle.trips.proofs.StandLaws.{flag-back, Back, Stands, stands-on, slot-stands, none-stands, stands-all}
 use Rattle.trips.proofs.StandParts.{fits, controls-back, pitches-back, taps-back, excitation-stands, spectrum-stands, filter-stands}
 use Rattle.trips.proofs.MadeLaws.{clean-with, long-with}

@@ -23,7 +23,7 @@ use Rattle.trips.proofs.StayLaws.{AllStay, front-stays, read-back}
 pub use Rattle.trips.proofs.StayLaws.{Same}
 use Rattle.trips.proofs.FilterLaws.{zero-back, nonzero-back}
 use Rattle.trips.proofs.FormLaws.{forms-back}
-use Rattle.slots.proofs.SoundLaws.{sound-where}
+use Rattle.reading.proofs.SoundLaws.{sound-where}
 
 -- a flag is read as the bool that it was
 pub flag-back : (b : Bool) → not (eqb (flag b) 0) ≡ b

@@ -18,8 +18,8 @@ use Rattle.voice.proofs.FrontLaws.{front-of}
 use Rattle.slots.specs.Slots.{floatsAt, randomIn, zeroIn, nonzeroIn, voiceWith, lpfAt, noiseAt, spectrumAt, filterAt}
 use Rattle.trips.specs.Clean.{zerosFrom, cleanZero, cleanNonzero, Clean}
 use Rattle.slots.proofs.CountLaws.{Long, rows-most}
-use Rattle.slots.proofs.ReadLaws.{length-read}
-use Rattle.slots.proofs.SoundLaws.{Room}
+use Rattle.reading.proofs.ReadLaws.{length-read}
+use Rattle.reading.proofs.SoundLaws.{Room}
 use Rattle.trips.proofs.StandParts.{zeroBy, nonzeroBy, EndsBy, fits}
 
 -- floats in front of an array

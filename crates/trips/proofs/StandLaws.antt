@@ -18,7 +18,7 @@ use Rattle.voice.specs.Voice.{inFront}
 use Rattle.voice.proofs.FrontLaws.{front-of}
 use Rattle.slots.specs.Slots.{bits, flag, slotAt, floatAt, floatsAt}
 use Rattle.slots.specs.Sound.{oneForm, between}
-use Rattle.slots.proofs.ReadLaws.{length-read}
+use Rattle.reading.proofs.ReadLaws.{length-read}
 
 -- ---- a value alone
 

@@ -18,8 +18,8 @@ use Rattle.configuration.specs.declared.Configuration.{Configuration}
 use Rattle.voice.specs.Voice.{none, inFront}
 use Rattle.slots.specs.Slots.{bits, excitationValues, spectrumValues, filterValues, slotAt, floatsAt, randomIn, zeroIn, nonzeroIn, voiceWith, lpfAt, noiseAt, queueAt, spectrumAt, filterAt}
 use Rattle.slots.specs.Sound.{oneForm, between, formsKept}
-use Rattle.slots.proofs.ReadLaws.{to-the-end}
-use Rattle.slots.proofs.SoundLaws.{Room}
+use Rattle.reading.proofs.ReadLaws.{to-the-end}
+use Rattle.reading.proofs.SoundLaws.{Room}
 use Rattle.trips.proofs.StandLaws.{Back, range-back, Stands, stands-on, slot-stands, floats-stand, array-stands}
 
 module _ (ws : List ℕ) (c : Configuration) where

@@ -1,20 +1,10 @@
 -- `gather` meets its contract: the parts stand one after the other. Assumes nothing.
-use borrow.Author.Needs.{needs}
 use native.Mathlib.Omega.{arith}
 use Rattle.configuration.proofs.LimitsLaws.{Sizes, sizes}
 use Rattle.slots.proofs.CountLaws.{Long, held-long, count-parts}
 use Rattle.slots.proofs.GatherLaws.{gathered}
 use Rattle.slots.proofs.gather.gather.Statement.{statement}
 use Rattle.slots.proofs.gather.gather.Tie as tie
-use Rattle.slots.proofs.gather.gather.Reads as reads
-use Rattle.slots.proofs.gather.gather.Lts as lts
-use Rattle.slots.proofs.gather.put_excitation.Reads as put-excitation-reads
-use Rattle.slots.proofs.gather.put_head.Reads as put-head-reads
-use Rattle.slots.proofs.gather.put_nonzero.Reads as put-nonzero-reads
-use Rattle.slots.proofs.gather.put_spectrum.Reads as put-spectrum-reads
-use Rattle.slots.proofs.gather.put_zero.Reads as put-zero-reads
-use Rattle.slots.proofs.places.filter_at.Reads as filter-at-reads
-use Rattle.slots.proofs.places.spectrum_at.Reads as spectrum-at-reads
 
 -- the arrays' lengths, and the limits
 long : (c : tie.Start) → Long (c .args .voice)
@@ -54,7 +44,7 @@ put-nonzero-requires c κs =
     (s .pre .0, omega (arith, c .before .before .if1 .left), omega (arith, count-parts (s .args .voice .configuration), c .filter-at2 .ensures, c .before .before .before .before .before .before .before .before .before .before .before .before .before .before .before .put-head .kept .1 .0, c .before .before .before .before .before .before .before .before .before .before .before .put-excitation .kept .1 .0, c .before .before .before .before .before .before .put-spectrum .kept .1 .0))
 
 same-length : tie.Need-same-length
-same-length c = search needs
+same-length c = omega arith
 
 returns : tie.Need-returns
 returns c =
@@ -62,7 +52,7 @@ returns c =
     gathered (s .args .voice) (long s) _ _ _ _ (s .pre .0) _ (c .before .before .before .before .before .before .before .before .before .before .before .before .before .before .before .before .before .before .put-head .ensures) (c .before .before .before .before .before .before .before .before .before .before .before .before .before .before .put-excitation .ensures) (rw (c .before .before .before .before .before .before .before .before .before .before .spectrum-at .ensures) at (c .before .before .before .before .before .before .before .before .before .put-spectrum .ensures)) (rw (c .before .before .before .filter-at .ensures) at (c .before .before .put-zero .ensures))
 
 same-length-2 : tie.Need-same-length-2
-same-length-2 c = search needs
+same-length-2 c = omega arith
 
 returns-2 : tie.Need-returns-2
 returns-2 c =

@@ -1,53 +1,53 @@
 -- `put_head` meets its contract: one array holds the values. Assumes nothing.
-use borrow.Author.Needs.{needs}
+use native.Mathlib.Omega.{arith}
 use Rattle.slots.proofs.gather.put_head.Statement.{statement}
 use Rattle.slots.proofs.gather.put_head.Tie as tie
 use Rattle.slots.proofs.GatherLaws.{flag-byte}
 
 cast-t8 : tie.Need-cast-t8
-cast-t8 c = search needs
+cast-t8 c = omega arith
 
 bits-of-requires : tie.Need-bits-of-requires
-bits-of-requires c κs = search needs
+bits-of-requires c κs = omega arith
 
 bits-of-requires-2 : tie.Need-bits-of-requires-2
-bits-of-requires-2 c κs = search needs
+bits-of-requires-2 c κs = omega arith
 
 bits-of-requires-3 : tie.Need-bits-of-requires-3
-bits-of-requires-3 c κs = search needs
+bits-of-requires-3 c κs = omega arith
 
 bits-of-requires-4 : tie.Need-bits-of-requires-4
-bits-of-requires-4 c κs = search needs
+bits-of-requires-4 c κs = omega arith
 
 bits-of-requires-5 : tie.Need-bits-of-requires-5
-bits-of-requires-5 c κs = search needs
+bits-of-requires-5 c κs = omega arith
 
 bits-of-requires-6 : tie.Need-bits-of-requires-6
-bits-of-requires-6 c κs = search needs
+bits-of-requires-6 c κs = omega arith
 
 cast-t17 : tie.Need-cast-t17
-cast-t17 c = search needs
+cast-t17 c = omega arith
 
 bits-of-requires-7 : tie.Need-bits-of-requires-7
-bits-of-requires-7 c κs = search needs
+bits-of-requires-7 c κs = omega arith
 
 bits-of-requires-8 : tie.Need-bits-of-requires-8
-bits-of-requires-8 c κs = search needs
+bits-of-requires-8 c κs = omega arith
 
 bits-of-requires-9 : tie.Need-bits-of-requires-9
-bits-of-requires-9 c κs = search needs
+bits-of-requires-9 c κs = omega arith
 
 bits-of-requires-10 : tie.Need-bits-of-requires-10
-bits-of-requires-10 c κs = search needs
+bits-of-requires-10 c κs = omega arith
 
 slice-aggregate-put-numbers : tie.Need-slice-aggregate-put-numbers
-slice-aggregate-put-numbers c = search needs
+slice-aggregate-put-numbers c = omega arith
 
 put-numbers-requires : tie.Need-put-numbers-requires
-put-numbers-requires c κs = search needs
+put-numbers-requires c κs = omega arith
 
 same-length : tie.Need-same-length
-same-length c = search needs
+same-length c = omega arith
 
 returns : tie.Need-returns
 returns c =

@@ -1,5 +1,4 @@
 -- `put_nonzero` meets its contract: the rows stand in front of their array. Assumes nothing.
-use borrow.Author.Needs.{needs}
 use Rattle.slots.proofs.gather.put_nonzero.Statement.{statement}
 use Rattle.slots.proofs.gather.put_nonzero.Tie as tie
 use mathlib.Core.Path.{_≡_}
@@ -18,10 +17,10 @@ mul-rows c =
     record { fits = omega (arith, rows-most (s .args .voice .configuration) (s .pre .0)) }
 
 sub-put-floats : tie.Need-sub-put-floats
-sub-put-floats c = search needs
+sub-put-floats c = omega arith
 
 part-put-floats-start : tie.Need-part-put-floats-start
-part-put-floats-start c = search needs
+part-put-floats-start c = omega arith
 
 part-put-floats-end : tie.Need-part-put-floats-end
 part-put-floats-end c =
@@ -34,7 +33,7 @@ put-floats-requires c κs =
     omega (arith, filter-rows (s .args .voice .configuration) (s .pre .1))
 
 same-length : tie.Need-same-length
-same-length c = search needs
+same-length c = omega arith
 
 returns : tie.Need-returns
 returns c =

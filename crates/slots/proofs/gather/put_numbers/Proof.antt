@@ -1,5 +1,4 @@
 -- `put_numbers` meets its contract: what is still to be stored. Assumes nothing.
-use borrow.Author.Needs.{needs}
 use Rattle.slots.proofs.gather.put_numbers.Statement.{statement}
 use Rattle.slots.proofs.gather.put_numbers.Tie as tie
 use mathlib.Core.Path.{_≡_, refl, _∙_}
@@ -21,25 +20,25 @@ loop-holds c =
     (omega arith, refl, rw all refl)
 
 mul-slots : tie.Need-mul-slots Inv-loop μ-loop
-mul-slots c = search needs
+mul-slots c = omega arith
 
 shared-slice-read-slots : tie.Need-shared-slice-read-slots Inv-loop μ-loop
-shared-slice-read-slots c = search needs
+shared-slice-read-slots c = omega arith
 
 add-slots : tie.Need-add-slots Inv-loop μ-loop
-add-slots c = search needs
+add-slots c = omega arith
 
 mul-slots-2 : tie.Need-mul-slots-2 Inv-loop μ-loop
-mul-slots-2 c = search needs
+mul-slots-2 c = omega arith
 
 slice-write-slots : tie.Need-slice-write-slots Inv-loop μ-loop
-slice-write-slots c = search needs
+slice-write-slots c = omega arith
 
 add-i : tie.Need-add-i Inv-loop μ-loop
-add-i c = search needs
+add-i c = omega arith
 
 loop-less : tie.Need-loop-less Inv-loop μ-loop
-loop-less c = search needs
+loop-less c = omega arith
 
 loop-again : tie.Need-loop-again Inv-loop μ-loop
 loop-again c =
@@ -49,7 +48,7 @@ loop-again c =
     (omega arith, length-set slots (at + i) _ ∙ c .before .before .loop .inv .1, numbers-turn slots at i (c .before .before .before .args .values .now) (omega arith) ∙ c .before .before .loop .inv .2)
 
 same-length : tie.Need-same-length Inv-loop μ-loop
-same-length c = search needs
+same-length c = omega arith
 
 returns : tie.Need-returns Inv-loop μ-loop
 returns c = numbers-end (c .before .loop .slots) (c .before .before .args .at) (c .before .loop .i) (c .before .before .args .values .now) (omega arith) ∙ c .before .loop .inv .2

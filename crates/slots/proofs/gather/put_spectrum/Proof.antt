@@ -1,5 +1,4 @@
 -- `put_spectrum` meets its contract: the parts stand one after the other. Assumes nothing.
-use borrow.Author.Needs.{needs}
 use Rattle.slots.proofs.gather.put_spectrum.Statement.{statement}
 use Rattle.slots.proofs.gather.put_spectrum.Tie as tie
 use native.Mathlib.Omega.{arith}
@@ -12,10 +11,10 @@ long : (c : tie.Start) → Long (c .args .voice)
 long c = held-long (c .args .voice) _ (c .good .0)
 
 sub-put-floats : tie.Need-sub-put-floats
-sub-put-floats c = search needs
+sub-put-floats c = omega arith
 
 part-put-floats-start : tie.Need-part-put-floats-start
-part-put-floats-start c = search needs
+part-put-floats-start c = omega arith
 
 part-put-floats-end : tie.Need-part-put-floats-end
 part-put-floats-end c =
@@ -23,16 +22,16 @@ part-put-floats-end c =
     omega (arith, long s .coefficients, sizes (s .args .voice .configuration) (s .pre .0) .nmcp-most)
 
 put-floats-requires : tie.Need-put-floats-requires
-put-floats-requires c κs = search needs
+put-floats-requires c κs = omega arith
 
 add-put-floats : tie.Need-add-put-floats
-add-put-floats c = search needs
+add-put-floats c = omega arith
 
 sub-put-floats-2 : tie.Need-sub-put-floats-2
-sub-put-floats-2 c = search needs
+sub-put-floats-2 c = omega arith
 
 part-put-floats-start-2 : tie.Need-part-put-floats-start-2
-part-put-floats-start-2 c = search needs
+part-put-floats-start-2 c = omega arith
 
 part-put-floats-end-2 : tie.Need-part-put-floats-end-2
 part-put-floats-end-2 c =
@@ -40,19 +39,19 @@ part-put-floats-end-2 c =
     omega (arith, long s .increments, sizes (s .args .voice .configuration) (s .pre .0) .nmcp-most)
 
 put-floats-requires-2 : tie.Need-put-floats-requires-2
-put-floats-requires-2 c κs = search needs
+put-floats-requires-2 c κs = omega arith
 
 add-put-floats-2 : tie.Need-add-put-floats-2
-add-put-floats-2 c = search needs
+add-put-floats-2 c = omega arith
 
 add-put-floats-3 : tie.Need-add-put-floats-3
-add-put-floats-3 c = search needs
+add-put-floats-3 c = omega arith
 
 sub-put-floats-3 : tie.Need-sub-put-floats-3
-sub-put-floats-3 c = search needs
+sub-put-floats-3 c = omega arith
 
 part-put-floats-start-3 : tie.Need-part-put-floats-start-3
-part-put-floats-start-3 c = search needs
+part-put-floats-start-3 c = omega arith
 
 part-put-floats-end-3 : tie.Need-part-put-floats-end-3
 part-put-floats-end-3 c =
@@ -60,10 +59,10 @@ part-put-floats-end-3 c =
     omega (arith, long s .targets, sizes (s .args .voice .configuration) (s .pre .0) .nmcp-most)
 
 put-floats-requires-3 : tie.Need-put-floats-requires-3
-put-floats-requires-3 c κs = search needs
+put-floats-requires-3 c κs = omega arith
 
 same-length : tie.Need-same-length
-same-length c = search needs
+same-length c = omega arith
 
 returns : tie.Need-returns
 returns c =

@@ -1,5 +1,4 @@
 -- `put_zero` meets its contract: the parts stand one after the other. Assumes nothing.
-use borrow.Author.Needs.{needs}
 use Rattle.slots.proofs.gather.put_zero.Statement.{statement}
 use Rattle.slots.proofs.gather.put_zero.Tie as tie
 use native.Mathlib.Omega.{arith}
@@ -25,7 +24,7 @@ put-floats-requires c κs =
     omega (arith, long s .d11, filter-zero (s .args .voice .configuration) (s .pre .1))
 
 add-put-floats : tie.Need-add-put-floats
-add-put-floats c = search needs
+add-put-floats c = omega arith
 
 slice-aggregate-put-floats-2 : tie.Need-slice-aggregate-put-floats-2
 slice-aggregate-put-floats-2 c = omega (arith, long (c .before .before .before .before .before .before .before .before .before .before .before .before .before .before .before) .d12)
@@ -36,10 +35,10 @@ put-floats-requires-2 c κs =
     omega (arith, long s .d12, filter-zero (s .args .voice .configuration) (s .pre .1))
 
 add-put-floats-2 : tie.Need-add-put-floats-2
-add-put-floats-2 c = search needs
+add-put-floats-2 c = omega arith
 
 add-put-floats-3 : tie.Need-add-put-floats-3
-add-put-floats-3 c = search needs
+add-put-floats-3 c = omega arith
 
 slice-aggregate-put-floats-3 : tie.Need-slice-aggregate-put-floats-3
 slice-aggregate-put-floats-3 c = omega (arith, long (c .before .before .before .before .before .before .before .before .before .before .before .before .before .before .before .before .before .before .before .before) .d22)
@@ -50,19 +49,19 @@ put-floats-requires-3 c κs =
     omega (arith, long s .d22, filter-zero (s .args .voice .configuration) (s .pre .1))
 
 add-put-floats-4 : tie.Need-add-put-floats-4
-add-put-floats-4 c = search needs
+add-put-floats-4 c = omega arith
 
 add-put-floats-5 : tie.Need-add-put-floats-5
-add-put-floats-5 c = search needs
+add-put-floats-5 c = omega arith
 
 add-put-floats-6 : tie.Need-add-put-floats-6
-add-put-floats-6 c = search needs
+add-put-floats-6 c = omega arith
 
 sub-put-floats : tie.Need-sub-put-floats
-sub-put-floats c = search needs
+sub-put-floats c = omega arith
 
 part-put-floats-start : tie.Need-part-put-floats-start
-part-put-floats-start c = search needs
+part-put-floats-start c = omega arith
 
 part-put-floats-end : tie.Need-part-put-floats-end
 part-put-floats-end c =
@@ -73,7 +72,7 @@ put-floats-requires-4 : tie.Need-put-floats-requires-4
 put-floats-requires-4 c κs = omega (arith, filter-zero (c .before .before .before .before .before .before .before .before .before .before .before .before .before .before .before .before .before .before .before .before .before .before .before .before .before .before .args .voice .configuration) (c .before .before .before .before .before .before .before .before .before .before .before .before .before .before .before .before .before .before .before .before .before .before .before .before .before .before .pre .1))
 
 same-length : tie.Need-same-length
-same-length c = search needs
+same-length c = omega arith
 
 returns : tie.Need-returns
 returns c =
