@@ -10,11 +10,11 @@ use borrow.Author.Tests.{ne-eqb}
 use Rattle.number.specs.F64.{_‼_, 0f}
 use Rattle.number.specs.Lists.{row, putRow}
 use Rattle.number.proofs.Lists.{left-next, putRow-rest, putRow-row, length-row, length-putRow, putRow-after, row-putRow}
-use Rattle.history.specs.Steps.{Step, dry, one}
+use Rattle.history.specs.Steps.{dry, one}
 use Rattle.noise.specs.declared.Random.{Random}
 use Rattle.pulse.specs.declared.Pulse.{Pulse}
 use Rattle.delay.specs.Line.{shifted}
-use Rattle.excitation.specs.Excitation.{Excitation, state, mixedStep, stepOf}
+use Rattle.excitation.specs.Excitation.{state, mixedStep, stepOf}
 use Rattle.excitation.specs.Window.{lineAt, zeroFrom, Stretches}
 use Rattle.excitation.proofs.GetLaws.{step-mixed}
 

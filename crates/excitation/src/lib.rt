@@ -28,7 +28,7 @@ pub struct Filled {
     pub random: Random,
 }
 
-// A stretch, sample by sample.
+// A stretch, sample by sample: for a line of no taps, and for one that the window has no room for.
 fn one_by_one(
     pulse: Pulse,
     random: Random,

@@ -71,7 +71,7 @@ fn slide(
 }
 
 // The line goes into the front of a window of zeros, and comes back from where the samples have left it.
-fn through(
+fn in_window(
     pulse: Pulse,
     next: u64,
     used: usize,
@@ -111,7 +111,7 @@ fn piece(
     ensures { λ _. ⌜ length (now (queue .exit)) ≡ 64 ⌝ }
 {
     let mut window = [0.0; 320];
-    through(pulse, next, used, queue, &mut window, line, lpf, out)
+    in_window(pulse, next, used, queue, &mut window, line, lpf, out)
 }
 
 // How many samples the next piece has, where so many are left.

@@ -5,11 +5,13 @@ use mathlib.Core.Bool.{false}
 use Prim.Native.Nat.{ℕ, zero, suc, _<_}
 use lib.IntN.{pos}
 use lib.Dec.{T}
-use lib.Ieee.{Float, fin, ofBits, mul}
-use Rattle.number.specs.F64.{_⊗_, _⊘_, −_, _‼_, 1f, 2f}
+use lib.Ieee.{Float, fin, ofBits, toBits, ofInt, round, add, sub, mul, div, neg, eq, le, lt}
+use Rattle.number.specs.F64.{_⊗_, _⊘_, −_, _‼_, 0f, 1f, 2f}
+use Rattle.elementary.specs.Series.{oddNumber}
+use Rattle.elementary.specs.Horner.{horner}
 use Rattle.elementary.specs.Band.{numberOf}
 use Rattle.elementary.specs.Exact.{lnInside}
-use Rattle.logarithm.specs.Ln.{lnOf}
+use Rattle.logarithm.specs.Ln.{coefficient, sumOf, nearOne, field, part, turns, ofPattern, lnOf}
 use Rattle.history.specs.Steps.{dry, running, steps}
 use Rattle.noise.specs.declared.Filling.{Filling}
 use Rattle.noise.specs.declared.Filling.the-variants as filling
@@ -18,6 +20,11 @@ use Rattle.noise.specs.Noise.{multiplierOf, pairOf, concat, fillingOf}
 -- -2 ln s / s, of which the multiplier is the root
 unfoldable pub weightOf : Float → Float
 weightOf s = − 2f ⊗ numberOf (lnOf s) ⊘ s
+
+-- ln 1 is 0
+pub weight-of-one : weightOf 1f ≡ − 0f
+unfolding weightOf numberOf lnOf ofPattern part field turns nearOne sumOf horner coefficient oddNumber round ofBits toBits ofInt add sub mul div neg eq le lt
+weight-of-one = refl
 
 -- n pairs, one after the other: the numbers of pair k times m k
 unfoldable pub pairsOf : (ℕ → Float) → ℕ → List Float → List Float → List Float

@@ -1,12 +1,9 @@
 -- `get_shifted` meets its contract. Assumes nothing.
-use mathlib.Core.Path.{_≡_, refl, sym, ap, _∙_}
-use mathlib.Core.List.{List}
+use mathlib.Core.Path.{_≡_, sym, ap, _∙_}
 use Prim.Native.Nat.{ℕ}
 use native.Mathlib.Omega.{arith}
-use lib.Ieee.{Float}
 use Rattle.delay.specs.Line.{shifted}
 use Rattle.excitation.specs.declared.Sample.{Sample}
-use Rattle.excitation.specs.declared.Sample.the-variants.{Made}
 use Rattle.excitation.specs.Excitation.{sampledOf}
 use borrow.Author.Needs.{needs}
 use Rattle.excitation.proofs.get.get_shifted.Statement.{statement}

@@ -3,7 +3,6 @@ use mathlib.Core.Path.{_≡_, refl, sym, ap, _∙_}
 use Prim.Native.Nat.{_+_, _-_, _≤_, _<_}
 use native.Mathlib.Omega.{arith}
 use lib.ListN.{length, length-set}
-use Rattle.number.specs.Lists.{row}
 use Rattle.number.proofs.Lists.{length-putRow}
 use Rattle.history.proofs.StepLaws.{Reached, reached-none, reached-more, reached-end, reached-dry}
 use Rattle.noise.specs.Draw.{tries}

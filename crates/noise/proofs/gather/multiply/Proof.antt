@@ -1,9 +1,8 @@
 -- `multiply` meets its contract: the values of the first k pairs stand in the queue. Assumes nothing.
 use mathlib.Core.Path.{_≡_, _∙_}
-use Prim.Native.Nat.{ℕ, _+_, _*_, _-_, _≤_}
+use Prim.Native.Nat.{_+_, _*_, _-_, _≤_}
 use native.Mathlib.Omega.{arith}
 use lib.ListN.{length, set, length-set}
-use lib.Ieee.{Float}
 use Rattle.number.specs.F64.{_‼_}
 use Rattle.number.specs.Lists.{over}
 use Rattle.root.specs.Root.{rootOf}

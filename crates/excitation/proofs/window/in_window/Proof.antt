@@ -1,19 +1,13 @@
--- `through` meets its contract. Assumes nothing.
+-- `in_window` meets its contract. Assumes nothing.
 use mathlib.Core.Path.{_≡_, sym, ap, _∙_}
 use Prim.Native.Nat.{_+_, _≤_}
 use native.Mathlib.Omega.{arith}
 use lib.ListN.{length}
-use Rattle.excitation.proofs.WindowLaws.{lent-line, lent-whole, front-length, front-line, front-zeros, other-lines}
-use Rattle.excitation.proofs.PieceLaws.{few}
-use mathlib.Core.Path.{_≡_, sym, ap, _∙_}
-use Prim.Native.Nat.{_+_, _≤_}
-use native.Mathlib.Omega.{arith}
-use lib.ListN.{length}
-use Rattle.excitation.proofs.WindowLaws.{lent-line, lent-whole, front-length, front-line, front-zeros, other-lines}
+use Rattle.excitation.proofs.WindowLaws.{lent-line, front-length, front-line, front-zeros, other-lines}
 use Rattle.excitation.proofs.PieceLaws.{few}
 use borrow.Author.Needs.{needs}
-use Rattle.excitation.proofs.window.through.Statement.{statement}
-use Rattle.excitation.proofs.window.through.Tie as tie
+use Rattle.excitation.proofs.window.in_window.Statement.{statement}
+use Rattle.excitation.proofs.window.in_window.Tie as tie
 
 sub-copy : tie.Need-sub-copy
 sub-copy c = search needs
@@ -86,8 +80,8 @@ returns c =
     let last = sym (c .before .before .copy2 .ensures ∙ lent-line (slide .result .made) taps (slide .last .1 .1 .1 .1 .0)) in
     (other-lines (a .lpf .now) (a .pulse) (slide .result .pulse) _ _ _ _ _ _ _ _ _ first last (slide .ensures .0), slide .ensures .1)
 
-pub through-spec : {M : Type 1} → statement M
-through-spec =
+pub in-window-spec : {M : Type 1} → statement M
+in-window-spec =
     tie.close
     (tie.spec
     sub-copy
