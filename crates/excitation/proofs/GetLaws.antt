@@ -1,5 +1,5 @@
 -- One sample, case by case. Assumes nothing.
-use mathlib.Core.Path.{_≡_, refl, sym, ap, _∙_}
+use mathlib.Core.Path.{_≡_, refl, sym, _∙_}
 use mathlib.Core.List.{List}
 use mathlib.Core.Bool.{true, false}
 use Prim.Native.Nat.{ℕ}
@@ -37,8 +37,8 @@ module _ (bound : ℕ) (s : Excitation) where
 
   -- by what `mix` answers
   pub mixed-made : (lpf out : List Float) (noise : Float) (z : Random) (p : Pulsed) → one noise z ≡ noiseOf bound (s .random)
-      → p ≡ record { sample = mixedLine (s .pulse) noise lpf (s .line) ‼ 0; pulse = pulseAfter (s .pulse) } → out ≡ shifted (mixedLine (s .pulse) noise lpf (s .line))
-      → one (p .sample) (record { pulse = p .pulse; random = z; line = out }) ≡ mixedStep bound lpf s
+      → p ≡ record { sample = mixedLine (s .pulse) noise lpf (s .line) ‼ 0; pulse = pulseAfter (s .pulse) } → out ≡ mixedLine (s .pulse) noise lpf (s .line)
+      → one (p .sample) (record { pulse = p .pulse; random = z; line = shifted out }) ≡ mixedStep bound lpf s
   mixed-made lpf out noise z p e ep eo = rw (ep, eo) (mixed-noise lpf noise z e)
 
   pub mixed-dry : (lpf : List Float) → dry ≡ noiseOf bound (s .random) → dry ≡ mixedStep bound lpf s
@@ -73,16 +73,15 @@ module _ (pulse : Pulse) where
   after-unvoiced v = rw v refl
 
   -- what `mix` makes of its steps, by what each of them answers
-  pub mix-voiced : (noise x : Float) (lpf line noisy both out : List Float) (p : Pulsed)
-      → voiced (pulse .pitch) ≡ true → noisy ≡ withNoise noise line → p ≡ pulseOf pulse → both ≡ withPulse (p .sample ⊖ noise) lpf noisy → x ≡ both ‼ 0 → out ≡ shifted both
-      → (_≡_ {A = Pulsed} (record { sample = x; pulse = p .pulse }) (record { sample = mixedLine pulse noise lpf line ‼ 0; pulse = pulseAfter pulse })) × (out ≡ shifted (mixedLine pulse noise lpf line))
-  mix-voiced noise x lpf line noisy both out p v ew ep eb ex eo =
+  pub mix-voiced : (noise : Float) (lpf line noisy both : List Float) (p : Pulsed)
+      → voiced (pulse .pitch) ≡ true → noisy ≡ withNoise noise line → p ≡ pulseOf pulse → both ≡ withPulse (p .sample ⊖ noise) lpf noisy
+      → (_≡_ {A = Pulsed} (record { sample = both ‼ 0; pulse = p .pulse }) (record { sample = mixedLine pulse noise lpf line ‼ 0; pulse = pulseAfter pulse })) × (both ≡ mixedLine pulse noise lpf line)
+  mix-voiced noise lpf line noisy both p v ew ep eb =
       let all : both ≡ mixedLine pulse noise lpf line = eb ∙ rw (ep, ew) (sym (line-voiced noise lpf line v)) in
-      (rw (ex, all, ep, after-voiced v) refl, eo ∙ ap shifted all)
+      (rw (all, ep, after-voiced v) refl, all)
 
-  pub mix-unvoiced : (noise x : Float) (lpf line noisy out : List Float)
-      → voiced (pulse .pitch) ≡ false → noisy ≡ withNoise noise line → x ≡ noisy ‼ 0 → out ≡ shifted noisy
-      → (_≡_ {A = Pulsed} (record { sample = x; pulse = pulse }) (record { sample = mixedLine pulse noise lpf line ‼ 0; pulse = pulseAfter pulse })) × (out ≡ shifted (mixedLine pulse noise lpf line))
-  mix-unvoiced noise x lpf line noisy out v ew ex eo =
+  pub mix-unvoiced : (noise : Float) (lpf line noisy : List Float) → voiced (pulse .pitch) ≡ false → noisy ≡ withNoise noise line
+      → (_≡_ {A = Pulsed} (record { sample = noisy ‼ 0; pulse = pulse }) (record { sample = mixedLine pulse noise lpf line ‼ 0; pulse = pulseAfter pulse })) × (noisy ≡ mixedLine pulse noise lpf line)
+  mix-unvoiced noise lpf line noisy v ew =
       let all : noisy ≡ mixedLine pulse noise lpf line = ew ∙ sym (line-unvoiced noise lpf line v) in
-      (rw (ex, all, after-unvoiced v) refl, eo ∙ ap shifted all)
+      (rw (all, after-unvoiced v) refl, all)

@@ -1,2 +1,4 @@
 mod GetLaws
+mod WindowLaws
+mod PieceLaws
 pub mod Laws

@@ -1,2 +1,3 @@
 pub mod Excitation
+pub mod Window
 pub mod Examples

@@ -1,3 +1,4 @@
 mod Between
 pub mod Tries
 mod NoiseLaws
+mod GatherLaws

@@ -7,17 +7,15 @@ use native.Mathlib.Omega.{arith}
 use lib.Dec.{T}
 use lib.Ieee.{Float}
 use lib.ListN.{length, set, length-append}
-use Rattle.number.specs.F64.{_⊗_}
 use Rattle.number.specs.Lists.{over}
-use Rattle.number.proofs.Lists.{over-more, over-end}
+use Rattle.number.proofs.Lists.{over-more}
 use Rattle.elementary.specs.Exact.{lnInside}
-use Rattle.history.specs.Steps.{dry, one, Run, running, stopped, steps}
-use Rattle.history.proofs.StepLaws.{turn-one, turn-dry}
+use Rattle.history.specs.Steps.{Run, steps}
 use Rattle.noise.specs.declared.draw.Try.{Try}
 use Rattle.noise.specs.declared.pair.Found.{Found}
 use Rattle.noise.specs.declared.pair.Found.the-variants as found
 use Rattle.noise.specs.Draw.{tryOf, accepted}
-use Rattle.noise.specs.Noise.{foundOf, multiplierOf, valuesOf, pairStep, pairOf, concat, filled, fillingOf}
+use Rattle.noise.specs.Noise.{foundOf, pairStep, pairOf, concat, filled, fillingOf}
 use Rattle.noise.proofs.Tries.{s-inside}
 
 -- the first try is accepted, or is not
@@ -67,43 +65,3 @@ over-pair xs d i a b e h =
     ∙ over-more (xs ++ (a ∷ [])) d (2 * i + 1) b n h
     ∙ ap (λ (l : List Float). over l (2 * i + 1 + 1) d) (append-assoc xs (a ∷ []) (b ∷ []))
     ∙ ap (λ (k : ℕ). over (xs ++ (a ∷ b ∷ [])) k d) twice
-
--- the pairs that i steps make
-abbrev pub made : ℕ → ℕ → ℕ → List (List Float)
-made bound next i = steps (pairOf bound) i next .made
-
--- after i steps `now` is what the loop has come to, and the pairs made stand in `values`, over what stood there
-pub record Filled (bound next i now : ℕ) (values before : List Float) : Type 0 where
-  pub run : steps (pairOf bound) i next ≡ running (made bound next i) now
-  pub count : length (concat (made bound next i)) ≡ 2 * i
-  pub stand : values ≡ over (concat (made bound next i)) (2 * i) before
-
-pub filled-none : (bound next : ℕ) (before : List Float) → Filled bound next 0 next before before
-unfolding steps
-filled-none bound next before = record { run = refl; count = refl; stand = refl }
-
--- a turn stores the two values of the pair that is found
-pub filled-more : (bound next i now : ℕ) (values before : List Float) (t : Try) (m : Float)
-    → Filled bound next i now values before → found.Pair t ≡ foundOf bound now → m ≡ multiplierOf (t .s) → 2 * i + 1 < length before
-    → Filled bound next (i + 1) (t .next) (set (set values (2 * i) (t .r1 ⊗ m)) (2 * i + 1) (t .r2 ⊗ m)) before
-filled-more bound next i now values before t m f e em h =
-    let M = made bound next i in
-    let new : steps (pairOf bound) (i + 1) next ≡ running (M ++ (valuesOf t ∷ [])) (t .next) = turn-one (pairOf bound) i next now M (valuesOf t) (t .next) (f .run) (pair-is bound now (found.Pair t) e) in
-    let pairs : made bound next (i + 1) ≡ M ++ (valuesOf t ∷ []) = ap (λ (r : Run ℕ (List Float)). r .made) new in
-    let all : concat (made bound next (i + 1)) ≡ concat M ++ valuesOf t = ap concat pairs ∙ concat-more M (valuesOf t) in
-    record {
-      run = new ∙ ap (λ (ms : List (List Float)). running ms (t .next)) (sym pairs);
-      count = rw all (simp length-append (omega (arith, f .count)));
-      stand = rw (all, em, f .stand) (over-pair (concat M) before i (t .r1 ⊗ multiplierOf (t .s)) (t .r2 ⊗ multiplierOf (t .s)) (f .count) h);
-    }
-
--- where 32 pairs stand, they are the filling
-pub filled-all : (bound next now : ℕ) (values before : List Float) → Filled bound next 32 now values before → length before ≡ 64 → one values now ≡ fillingOf bound next
-filled-all bound next now values before f h =
-    let e : values ≡ concat (made bound next 32) = f .stand ∙ over-end (concat (made bound next 32)) before 64 (omega (arith, h)) in
-    rw e (sym (filling-is bound next (running (made bound next 32) now) (f .run)))
-
--- where a pair is dry, so is the filling
-pub filled-dry : (bound next i now : ℕ) (values before : List Float) → Filled bound next i now values before → i < 32 → found.Dry ≡ foundOf bound now → dry ≡ fillingOf bound next
-filled-dry bound next i now values before f h e =
-    sym (filling-is bound next (stopped (made bound next i) now) (turn-dry (pairOf bound) i 32 next now (made bound next i) h (f .run) (pair-is bound now found.Dry e)))

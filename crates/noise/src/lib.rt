@@ -7,11 +7,12 @@ ghost use Rattle.noise.specs.declared.Filling.the-variants as filling;
 ghost use Rattle.noise.specs.declared.Taken.the-variants as taken;
 
 mod draw;
+mod gather;
 mod pair;
 
-use crate::pair::Found;
-use crate::pair::find_pair;
-use crate::pair::multiplier;
+use crate::gather::find_pairs;
+use crate::gather::multiply;
+use crate::gather::weigh;
 
 // The state of the noise: `next` of the draws, and 64 values, of which `used` are taken.
 #[repr(C)]
@@ -53,26 +54,19 @@ fn fill_queue(next: u64, queue: &mut [f64; 64]) -> Filling
     ensures { λ r. ⌜ (r ≡ filling.Dry → now (queue .exit) ≡ now (queue .entry)) ⌝ }
     ensures { λ _. ⌜ length (now (queue .exit)) ≡ 64 ⌝ }
 {
-    let mut values = [0.0; 64];
-    let mut next = next;
-    let mut i: usize = 0;
-    while i < 32 {
-        let found = find_pair(next);
-        match found {
-            Found::Pair(t) => {
-                let m = multiplier(t.s);
-                values[2 * i] = t.r1 * m;
-                values[2 * i + 1] = t.r2 * m;
-                next = t.next;
-                i += 1;
-            }
-            Found::Dry => {
-                return Filling::Dry;
-            }
+    let mut firsts = [0.0; 32];
+    let mut seconds = [0.0; 32];
+    let mut sums = [0.0; 32];
+    let found = find_pairs(next, &mut firsts, &mut seconds, &mut sums);
+    match found {
+        Filling::Full(next) => {
+            let mut weights = [0.0; 32];
+            weigh(&sums, &mut weights);
+            multiply(&firsts, &seconds, &weights, queue);
+            Filling::Full(next)
         }
+        Filling::Dry => Filling::Dry,
     }
-    *queue = values;
-    Filling::Full(next)
 }
 
 // The next value; where all 64 are taken, the first of a new filling. Where that is dry, the queue stays as it was.

@@ -1,9 +1,10 @@
-// The first try that is accepted, and what its two numbers are multiplied by.
+// The first try that is accepted, and the square of what its two numbers are multiplied by.
 ghost use mathlib.Core.Path.{_≡_};
 ghost use lib.Dec.{T};
 ghost use Rattle.elementary.specs.Exact.{lnInside};
 ghost use Rattle.noise.specs.Draw.{tries};
-ghost use Rattle.noise.specs.Noise.{foundOf, multiplierOf};
+ghost use Rattle.noise.specs.Noise.{foundOf};
+ghost use Rattle.noise.specs.Gathering.{weightOf};
 use crate::draw::Try;
 use crate::draw::attempt;
 use number::range::strictly_within;
@@ -34,10 +35,10 @@ pub fn find_pair(next: u64) -> Found
     found
 }
 
-// sqrt(-2 ln s / s).
-pub fn multiplier(s: f64) -> f64
+// -2 ln s / s.
+pub fn weight(s: f64) -> f64
     requires { ⌜ T (lnInside s) ⌝ }
-    ensures { λ r. ⌜ r ≡ multiplierOf s ⌝ }
+    ensures { λ r. ⌜ r ≡ weightOf s ⌝ }
 {
-    root::sqrt(-2.0 * logarithm::ln_inside(s) / s)
+    -2.0 * logarithm::ln_inside(s) / s
 }

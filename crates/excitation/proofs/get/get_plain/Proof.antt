@@ -10,8 +10,8 @@ use Rattle.excitation.specs.declared.Sample.the-variants.{Made}
 use Rattle.excitation.specs.Excitation.{excitation, sampledOf}
 use Rattle.excitation.proofs.GetLaws.{plain-pulse, plain-noise, plain-dry}
 use borrow.Author.Needs.{needs}
-use Rattle.excitation.proofs.get_plain.Statement.{statement}
-use Rattle.excitation.proofs.get_plain.Tie as tie
+use Rattle.excitation.proofs.get.get_plain.Statement.{statement}
+use Rattle.excitation.proofs.get.get_plain.Tie as tie
 
 next-requires : tie.Need-next-requires
 next-requires c κs = search needs

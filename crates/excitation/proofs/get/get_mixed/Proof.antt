@@ -8,8 +8,8 @@ use Rattle.noise.specs.Noise.{takenOf}
 use Rattle.excitation.specs.Excitation.{excitation}
 use Rattle.excitation.proofs.GetLaws.{mixed-made, mixed-dry}
 use borrow.Author.Needs.{needs}
-use Rattle.excitation.proofs.get_mixed.Statement.{statement}
-use Rattle.excitation.proofs.get_mixed.Tie as tie
+use Rattle.excitation.proofs.get.get_mixed.Statement.{statement}
+use Rattle.excitation.proofs.get.get_mixed.Tie as tie
 
 nrandom-requires : tie.Need-nrandom-requires
 nrandom-requires c κs = search needs

@@ -1,4 +1,4 @@
--- `stretch` meets its contract: after i turns the state is that after i samples, and they stand in `out`. Assumes nothing.
+-- `one_by_one` meets its contract: after i turns the state is that after i samples, and they stand in `out`. Assumes nothing.
 use mathlib.Core.Path.{_≡_, refl, sym, ap, _∙_}
 use Prim.Native.Nat.{_-_, _≤_}
 use native.Mathlib.Omega.{arith}
@@ -8,8 +8,8 @@ use Rattle.noise.specs.Draw.{tries}
 use Rattle.excitation.specs.declared.Sample.{Sample}
 use Rattle.excitation.specs.Excitation.{excitation, stepOf, sampledOf}
 use borrow.Author.Needs.{needs}
-use Rattle.excitation.proofs.stretch.Statement.{statement}
-use Rattle.excitation.proofs.stretch.Tie as tie
+use Rattle.excitation.proofs.one_by_one.Statement.{statement}
+use Rattle.excitation.proofs.one_by_one.Tie as tie
 
 abbrev Inv-loop : tie.InvT-loop
 Inv-loop line₀ lpf out₀ now-pulse₀ next₀ used₀ queue₀ n i₀ line out now-pulse next used queue i =
@@ -74,7 +74,7 @@ returns c =
     let a = c .before .before .before .before .before .before .args in
     let end : top .loop .i ≡ length (a .out .now) = omega (arith, c .loop-test .left) in
     let f = reached-end (stepOf tries (a .lpf .now)) (top .loop .i) (length (a .out .now)) _ _ (top .loop .out) (a .out .now) (top .loop .inv .5) end in
-    (f .0, (f .1, f .2))
+    record { state = f .0; count = f .1; stand = f .2 }
 
 same-length-3 : tie.Need-same-length-3 Inv-loop μ-loop
 same-length-3 c = search needs
@@ -91,10 +91,10 @@ returns-2 c =
     let stays = get .ensures .1 .0 none in
     let e = sym (get .ensures .0) ∙ ap (λ (r : Sample). sampledOf r (get .last .1 .1 .1 .0) (get .last .1 .1 .1 .1 .0)) none in
     let f = reached-dry (stepOf tries (a .lpf .now)) (top .loop .i) (length (a .out .now)) _ _ (top .loop .out) (a .out .now) (top .loop .inv .5) (c .before .before .before .before .before .before .before .loop-test .taken) e in
-    (rw (stays .0, stays .1) (f .0), (f .1, f .2))
+    record { state = rw (stays .0, stays .1) (f .0); count = f .1; stand = f .2 }
 
-pub stretch-spec : {M : Type 1} → statement M
-stretch-spec =
+pub one-by-one-spec : {M : Type 1} → statement M
+one-by-one-spec =
     tie.close
     (tie.spec
     Inv-loop

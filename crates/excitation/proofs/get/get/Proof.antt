@@ -6,14 +6,14 @@ use Rattle.noise.specs.Draw.{tries}
 use Rattle.excitation.specs.Excitation.{excitation}
 use Rattle.excitation.proofs.GetLaws.{step-plain, step-mixed}
 use borrow.Author.Needs.{needs}
-use Rattle.excitation.proofs.get.Statement.{statement}
-use Rattle.excitation.proofs.get.Tie as tie
+use Rattle.excitation.proofs.get.get.Statement.{statement}
+use Rattle.excitation.proofs.get.get.Tie as tie
 
 get-plain-requires : tie.Need-get-plain-requires
 get-plain-requires c κs = search needs
 
-get-mixed-requires : tie.Need-get-mixed-requires
-get-mixed-requires c κs = search needs
+get-shifted-requires : tie.Need-get-shifted-requires
+get-shifted-requires c κs = search needs
 
 returns : tie.Need-returns
 returns c =
@@ -29,10 +29,10 @@ same-length c = search needs
 
 returns-2 : tie.Need-returns-2
 returns-2 c =
-    let mixed = c .before .before .get-mixed in
+    let mixed = c .before .before .get-shifted in
     let a = c .before .before .before .before .before .before .before .before .args in
     let some = ne-eqb (length (a .line .now)) 0 (c .before .before .before .before .before .if1 .left) in
     (mixed .ensures .0 ∙ step-mixed tries (excitation (a .pulse) (a .next) (a .used) (a .queue .now) (a .line .now)) (a .lpf .now) some, mixed .ensures .1)
 
 pub get-spec : {M : Type 1} → statement M
-get-spec = tie.close (tie.spec get-plain-requires get-mixed-requires returns same-length returns-2)
+get-spec = tie.close (tie.spec get-plain-requires get-shifted-requires returns same-length returns-2)
