@@ -1,1 +1,2 @@
 mod CepstrumLaws
+mod WarpLaws

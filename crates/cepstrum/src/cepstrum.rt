@@ -5,7 +5,7 @@ ghost use Prim.Native.Nat.{_+_, _-_, _≤_, _<_};
 ghost use lib.ListN.{length, take, drop};
 ghost use Rattle.number.specs.F64.{0f};
 ghost use Rattle.vectors.specs.Vectors.{sumFrom};
-ghost use Rattle.cepstrum.specs.Cepstrum.{unwarped, mc2bOf, onward, pass, freqtOf, irTerm, c2irOf};
+ghost use Rattle.cepstrum.specs.Cepstrum.{unwarped, mc2bOf, onward, pass, passes, freqtOf, irTerm, c2irOf};
 
 // The coefficients, where alpha is not 0: from the last one down.
 fn unwarp(c: &[f64], alpha: f64, b: &mut [f64])
@@ -61,16 +61,39 @@ fn pass_in(g: &mut [f64], alpha: f64, x: f64)
     onward_in(g, alpha, second, new);
 }
 
+// The passes, eight at a time as long as there are eight. Answers how many coefficients went in.
+fn eights_in(g: &mut [f64], alpha: f64, c: &[f64]) -> usize
+    requires { ⌜ 2 ≤ length (now g) ⌝ }
+    ensures { λ r. ⌜ (r ≤ length (now (c .entry))) × (passes alpha (drop r (now (c .entry))) (now (g .exit)) ≡ passes alpha (now (c .entry)) (now (g .entry))) ⌝ }
+{
+    let mut i = 0;
+    while c.len() - i >= 8 {
+        let next = i + 8;
+        wave::eight_in(g, alpha, &c[i..next]);
+        i = next;
+    }
+    i
+}
+
+// The passes one by one.
+fn singles_in(g: &mut [f64], alpha: f64, c: &[f64])
+    requires { ⌜ 2 ≤ length (now g) ⌝ }
+    ensures { λ _. ⌜ now (g .exit) ≡ passes alpha (now (c .entry)) (now (g .entry)) ⌝ }
+{
+    let mut i = 0;
+    while i < c.len() {
+        pass_in(g, alpha, c[i]);
+        i += 1;
+    }
+}
+
 // The warped cepstrum, of 576 entries.
 pub fn freqt(c: &[f64], alpha: f64) -> [f64; 576]
     ensures { λ r. ⌜ r ≡ freqtOf alpha 576 (now (c .entry)) ⌝ }
 {
     let mut g = [0.0; 576];
-    let mut i = 0;
-    while i < c.len() {
-        pass_in(&mut g, alpha, c[i]);
-        i += 1;
-    }
+    let done = eights_in(&mut g, alpha, c);
+    singles_in(&mut g, alpha, &c[done..]);
     g
 }
 
