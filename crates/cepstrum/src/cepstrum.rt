@@ -5,7 +5,8 @@ ghost use Prim.Native.Nat.{_+_, _-_, _≤_, _<_};
 ghost use lib.ListN.{length, take, drop};
 ghost use Rattle.number.specs.F64.{0f};
 ghost use Rattle.vectors.specs.Vectors.{sumFrom};
-ghost use Rattle.cepstrum.specs.Cepstrum.{unwarped, mc2bOf, onward, pass, passes, freqtOf, irTerm, c2irOf};
+ghost use Rattle.cepstrum.specs.Cepstrum.{unwarped, mc2bOf, onward, pass, passes, freqtOf, c2irOf};
+ghost use Rattle.cepstrum.specs.Weights.{weightsOf, weighedTerm};
 
 // The coefficients, where alpha is not 0: from the last one down.
 fn unwarp(c: &[f64], alpha: f64, b: &mut [f64])
@@ -97,15 +98,29 @@ pub fn freqt(c: &[f64], alpha: f64) -> [f64; 576]
     g
 }
 
-// The sum of k * c[k] * ir[n - k] for k from 1 to n.
-fn ir_sum(c: &[f64], ir: &[f64], n: usize) -> f64
-    requires { ⌜ (n < length (now c)) × (n < length (now ir)) × (n < 576) ⌝ }
-    ensures { λ r. ⌜ r ≡ sumFrom (irTerm (now (c .entry)) (now (ir .entry)) n) 1 n 0f ⌝ }
+// k * c[k] for each k.
+pub fn weights(c: &[f64; 576]) -> [f64; 576]
+    requires { ⌜ length (now c) ≡ 576 ⌝ }
+    ensures { λ r. ⌜ r ≡ weightsOf 576 (now (c .entry)) ⌝ }
+{
+    let mut w = [0.0; 576];
+    let mut k = 0;
+    while k < 576 {
+        w[k] = k as f64 * c[k];
+        k += 1;
+    }
+    w
+}
+
+// The sum of w[k] * ir[n - k] for k from 1 to n.
+fn ir_sum(w: &[f64], ir: &[f64], n: usize) -> f64
+    requires { ⌜ (n < length (now w)) × (n < length (now ir)) × (n < 576) ⌝ }
+    ensures { λ r. ⌜ r ≡ sumFrom (weighedTerm (now (w .entry)) (now (ir .entry)) n) 1 n 0f ⌝ }
 {
     let mut d = 0.0;
     let mut k = 1;
     while k <= n {
-        d += k as f64 * c[k] * ir[n - k];
+        d += w[k] * ir[n - k];
         k += 1;
     }
     d
@@ -116,11 +131,12 @@ pub fn c2ir(c: &[f64; 576]) -> [f64; 576]
     requires { ⌜ length (now c) ≡ 576 ⌝ }
     ensures { λ r. ⌜ r ≡ c2irOf 576 (now (c .entry)) ⌝ }
 {
+    let w = weights(c);
     let mut ir = [0.0; 576];
     ir[0] = exponential::exp(c[0]);
     let mut n = 1;
     while n < 576 {
-        ir[n] = ir_sum(c, &ir, n) / n as f64;
+        ir[n] = ir_sum(&w, &ir, n) / n as f64;
         n += 1;
     }
     ir

@@ -3,9 +3,8 @@ use mathlib.Core.Path.{_≡_, refl, ap, _∙_}
 use Prim.Native.Nat.{_-_, _≤_}
 use native.Mathlib.Omega.{arith}
 use lib.ListN.{length, length-set, set, replicate}
-use lib.Ieee.{Float, binary64, ofInt}
-use lib.IntN.{pos}
-use Rattle.number.specs.F64.{0f, _⊘_}
+use lib.Ieee.{Float}
+use Rattle.number.specs.F64.{0f}
 use Rattle.number.specs.Lists.{over}
 use Rattle.number.proofs.Lists.{over-end}
 use Rattle.vectors.specs.Vectors.{grown}
@@ -17,10 +16,13 @@ use Rattle.cepstrum.proofs.cepstrum.c2ir.Statement.{statement}
 use Rattle.cepstrum.proofs.cepstrum.c2ir.Tie as tie
 
 abbrev Inv-loop : tie.InvT-loop
-Inv-loop c ir₀ n₀ ir n = (1 ≤ n) × (n ≤ 576) × (length ir ≡ 576) × (ir ≡ over (grown (irEntry c) n) n (replicate 576 0f))
+Inv-loop c w ir₀ n₀ ir n = (1 ≤ n) × (n ≤ 576) × (length ir ≡ 576) × (ir ≡ over (grown (irEntry c) n) n (replicate 576 0f))
 
 abbrev μ-loop : tie.MeasureT-loop
-μ-loop c ir₀ n₀ ir n = 576 - n
+μ-loop c w ir₀ n₀ ir n = 576 - n
+
+weights-requires : tie.Need-weights-requires Inv-loop μ-loop
+weights-requires c κs = search needs
 
 element-copy-out-exp : tie.Need-element-copy-out-exp Inv-loop μ-loop
 element-copy-out-exp c = search needs
@@ -34,11 +36,13 @@ array-write-ir c = search needs
 loop-holds : tie.Need-loop-holds Inv-loop μ-loop
 unfolding grown
 loop-holds c =
-    let x = c .before .before .args .c .now in
     (omega arith, omega arith, refl, ap (λ (y : Float). set (replicate 576 0f) 0 y) (c .exp .ensures .0))
 
 slice-aggregate-ir-sum : tie.Need-slice-aggregate-ir-sum Inv-loop μ-loop
 slice-aggregate-ir-sum c = search needs
+
+slice-aggregate-ir-sum-2 : tie.Need-slice-aggregate-ir-sum-2 Inv-loop μ-loop
+slice-aggregate-ir-sum-2 c = search needs
 
 ir-sum-requires : tie.Need-ir-sum-requires Inv-loop μ-loop
 ir-sum-requires c κs = search needs
@@ -61,17 +65,18 @@ loop-less c = search needs
 loop-again : tie.Need-loop-again Inv-loop μ-loop
 loop-again c =
     let top = c .before .before .before .before .before in
-    let x = top .before .before .before .args .c .now in
+    let start = top .before .before .before in
+    let x = start .before .args .c .now in
     let ir = top .loop .ir in
     let n = top .loop .n in
-    let turn = ir-turn x ir (replicate 576 0f) n (omega arith) (omega arith) (top .loop .inv .3) in
-    (omega arith, omega arith, length-set ir n _ ∙ top .loop .inv .2, ap (λ (y : Float). set ir n (y ⊘ ofInt binary64 (pos n))) (c .before .ir-sum .ensures) ∙ turn)
+    let turn = ir-turn x (start .weights .result) ir (replicate 576 0f) 576 n (c .before .ir-sum .result) (start .weights .ensures) (c .before .ir-sum .ensures) (top .loop .inv .3) (omega arith) (omega arith) (omega arith) in
+    (omega arith, omega arith, length-set ir n _ ∙ top .loop .inv .2, turn)
 
 returns : tie.Need-returns Inv-loop μ-loop
 unfolding c2irOf
 returns c =
     let top = c .before in
-    let x = top .before .before .before .args .c .now in
+    let x = top .before .before .before .before .args .c .now in
     let n = top .loop .n in
     let e : n ≡ 576 = omega arith in
     top .loop .inv .3 ∙ over-end (grown (irEntry x) n) (replicate 576 0f) n (omega arith) ∙ rw e refl
@@ -82,11 +87,13 @@ c2ir-spec =
     (tie.spec
     Inv-loop
     μ-loop
+    weights-requires
     element-copy-out-exp
     exp-requires
     array-write-ir
     loop-holds
     slice-aggregate-ir-sum
+    slice-aggregate-ir-sum-2
     ir-sum-requires
     int-to-float-ir
     mul-ir
