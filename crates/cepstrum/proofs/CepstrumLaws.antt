@@ -5,16 +5,16 @@ use Prim.Native.Nat.{ℕ, zero, suc, _+_, _-_, _≤_, _<_}
 use mathlib.Core.Logic.{⊎-elim}
 use native.Mathlib.Nat.{eq-or-lt-of-le}
 use native.Mathlib.Omega.{arith}
-use lib.ListN.{length, take, drop, set, List·getD-append}
+use lib.ListN.{length, take, drop, set, replicate, length-set, List·getD-append}
 use lib.Seq.{getD-at}
 use lib.IntN.{pos}
 use lib.Ieee.{Float, nan, binary64, ofInt}
 use Rattle.number.specs.F64.{_⊕_, _⊖_, _⊗_, _⊘_, _‼_, 0f, 1f}
 use Rattle.number.specs.Lists.{over}
-use Rattle.number.proofs.Lists.{left-next, left-none, back-turn, over-more}
+use Rattle.number.proofs.Lists.{left-next, left-none, back-turn, over-more, over-end}
 use Rattle.vectors.specs.Vectors.{sumFrom, grown}
 use Rattle.vectors.proofs.VectorLaws.{sum-same, length-grown, grown-more}
-use Rattle.cepstrum.specs.Cepstrum.{unwarped, b2mcOf, onward, pass, passes, irTerm, irEntry}
+use Rattle.cepstrum.specs.Cepstrum.{unwarped, b2mcOf, onward, pass, passes, irTerm, irEntry, c2irOf}
 use Rattle.cepstrum.specs.Weights.{weight, weightsOf, weighedTerm}
 
 module _ (a : Float) (c out : List Float) (i : ℕ) (same : length out ≡ length c) where
@@ -79,10 +79,23 @@ unfolding weightsOf
 weighed-sum c ir m n h =
     sum-same (weighedTerm (grown (λ _. weight c) m) ir n) (irTerm c ir n) 1 n 0f (λ i a b. ap (λ (y : Float). y ⊗ ir ‼ (n - i)) (grown-at (weight c) m i (omega arith)))
 
-pub ir-turn : (c w ir d : List Float) (m n : ℕ) (s : Float) → w ≡ weightsOf m c → s ≡ sumFrom (weighedTerm w ir n) 1 n 0f → ir ≡ over (grown (irEntry c) n) n d
+ir-turn : (c w ir d : List Float) (m n : ℕ) (s : Float) → w ≡ weightsOf m c → s ≡ sumFrom (weighedTerm w ir n) 1 n 0f → ir ≡ over (grown (irEntry c) n) n d
     → 1 ≤ n → n < m → n < length d → set ir n (s ⊘ ofInt binary64 (pos n)) ≡ over (grown (irEntry c) (n + 1)) (n + 1) d
 ir-turn c w ir d m n s ew es e h hm hd =
     rw (es, ew, weighed-sum c ir m n hm, e, ir-reads c d n h, later c (grown (irEntry c) n) n h, grown-more (irEntry c) n) (over-more (grown (irEntry c) n) d n (irEntry c (grown (irEntry c) n) n) (length-grown (irEntry c) n) hd)
+
+-- the array ir of 576 has the first n entries of c's response, and zeros
+abbrev pub Made : (c ir : List Float) (n : ℕ) → Type 0
+Made c ir n = (length ir ≡ 576) × (ir ≡ over (grown (irEntry c) n) n (replicate 576 0f))
+
+-- one more entry, from the sum s; and all of them
+pub made-more : (c w ir : List Float) (n : ℕ) (s : Float) → w ≡ weightsOf 576 c → s ≡ sumFrom (weighedTerm w ir n) 1 n 0f → Made c ir n
+    → 1 ≤ n → n < 576 → Made c (set ir n (s ⊘ ofInt binary64 (pos n))) (n + 1)
+made-more c w ir n s ew es m h k = (length-set ir n _ ∙ m .0, ir-turn c w ir (replicate 576 0f) 576 n s ew es (m .1) h k (omega arith))
+
+pub made-all : (c ir : List Float) (n : ℕ) → n ≡ 576 → Made c ir n → ir ≡ c2irOf 576 c
+unfolding c2irOf
+made-all c ir n e m = m .1 ∙ over-end (grown (irEntry c) n) (replicate 576 0f) n (omega arith) ∙ rw e refl
 
 -- one more weight in the array
 pub weights-turn : (c w d : List Float) (k : ℕ) → k < length d → w ≡ over (weightsOf k c) k d → set w k (weight c k) ≡ over (weightsOf (k + 1) c) (k + 1) d

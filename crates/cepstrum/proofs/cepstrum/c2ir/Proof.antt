@@ -1,22 +1,19 @@
 -- `c2ir` meets its contract: the first n entries are made. Assumes nothing.
-use mathlib.Core.Path.{_≡_, refl, ap, _∙_}
+use mathlib.Core.Path.{refl, ap}
 use Prim.Native.Nat.{_-_, _≤_}
 use native.Mathlib.Omega.{arith}
-use lib.ListN.{length, length-set, set, replicate}
+use lib.ListN.{set, replicate}
 use lib.Ieee.{Float}
 use Rattle.number.specs.F64.{0f}
-use Rattle.number.specs.Lists.{over}
-use Rattle.number.proofs.Lists.{over-end}
 use Rattle.vectors.specs.Vectors.{grown}
-use Rattle.cepstrum.specs.Cepstrum.{irEntry, c2irOf}
-use Rattle.cepstrum.proofs.CepstrumLaws.{ir-turn}
+use Rattle.cepstrum.proofs.CepstrumLaws.{Made, made-more, made-all}
 use Rattle.number.proofs.Floats.{small-float}
 use borrow.Author.Needs.{needs}
 use Rattle.cepstrum.proofs.cepstrum.c2ir.Statement.{statement}
 use Rattle.cepstrum.proofs.cepstrum.c2ir.Tie as tie
 
 abbrev Inv-loop : tie.InvT-loop
-Inv-loop c w ir₀ n₀ ir n = (1 ≤ n) × (n ≤ 576) × (length ir ≡ 576) × (ir ≡ over (grown (irEntry c) n) n (replicate 576 0f))
+Inv-loop c w ir₀ n₀ ir n = (1 ≤ n) × (n ≤ 576) × Made c ir n
 
 abbrev μ-loop : tie.MeasureT-loop
 μ-loop c w ir₀ n₀ ir n = 576 - n
@@ -35,8 +32,7 @@ array-write-ir c = search needs
 
 loop-holds : tie.Need-loop-holds Inv-loop μ-loop
 unfolding grown
-loop-holds c =
-    (omega arith, omega arith, refl, ap (λ (y : Float). set (replicate 576 0f) 0 y) (c .exp .ensures .0))
+loop-holds c = (omega arith, omega arith, (refl, ap (λ (y : Float). set (replicate 576 0f) 0 y) (c .exp .ensures .0)))
 
 slice-aggregate-ir-sum : tie.Need-slice-aggregate-ir-sum Inv-loop μ-loop
 slice-aggregate-ir-sum c = search needs
@@ -66,20 +62,13 @@ loop-again : tie.Need-loop-again Inv-loop μ-loop
 loop-again c =
     let top = c .before .before .before .before .before in
     let start = top .before .before .before in
-    let x = start .before .args .c .now in
-    let ir = top .loop .ir in
-    let n = top .loop .n in
-    let turn = ir-turn x (start .weights .result) ir (replicate 576 0f) 576 n (c .before .ir-sum .result) (start .weights .ensures) (c .before .ir-sum .ensures) (top .loop .inv .3) (omega arith) (omega arith) (omega arith) in
-    (omega arith, omega arith, length-set ir n _ ∙ top .loop .inv .2, turn)
+    let sum = c .before .ir-sum in
+    (omega arith, omega arith, made-more (start .before .args .c .now) (start .weights .result) (top .loop .ir) (top .loop .n) (sum .result) (start .weights .ensures) (sum .ensures) (top .loop .inv .2) (omega arith) (omega arith))
 
 returns : tie.Need-returns Inv-loop μ-loop
-unfolding c2irOf
 returns c =
     let top = c .before in
-    let x = top .before .before .before .before .args .c .now in
-    let n = top .loop .n in
-    let e : n ≡ 576 = omega arith in
-    top .loop .inv .3 ∙ over-end (grown (irEntry x) n) (replicate 576 0f) n (omega arith) ∙ rw e refl
+    made-all (top .before .before .before .before .args .c .now) (top .loop .ir) (top .loop .n) (omega arith) (top .loop .inv .2)
 
 pub c2ir-spec : {M : Type 1} → statement M
 c2ir-spec =
