@@ -5,7 +5,7 @@ use mathlib.Core.Bool.{false}
 use Prim.Native.Nat.{ℕ, _-_}
 use lib.IntN.{pos}
 use lib.Ieee.{Float, fin, binary64, ofInt, ofBits, mul}
-use Rattle.number.specs.F64.{_⊗_, _‼_, 1f, 2f}
+use Rattle.number.specs.F64.{_⊗_, _‼_, 0f, 1f, 2f}
 use Rattle.vectors.specs.Vectors.{grown}
 
 -- k * c[k] for each k below n
@@ -23,3 +23,8 @@ weighedTerm w ir i k = w ‼ k ⊗ ir ‼ (i - k)
 pub three-weights : weightsOf 3 (1f ∷ 1f ∷ 2f ∷ []) ≡ fin false 0 (pos 0) ∷ fin false 1 (pos 0) ∷ fin false 1 (pos 2) ∷ []
 unfolding weightsOf grown ofBits ofInt mul
 three-weights = refl
+
+-- the first term for entry 2, where the response begins with 1, 2: 1 * 2
+pub first-term : weighedTerm (0f ∷ 1f ∷ 2f ∷ []) (1f ∷ 2f ∷ []) 2 1 ≡ fin false 1 (pos 1)
+unfolding ofBits mul
+first-term = refl
