@@ -1,1 +1,3 @@
-mod CepstrumLaws
+-- Laws that the proofs of this crate, and of others, cite.
+pub mod CepstrumLaws
+mod WarpLaws

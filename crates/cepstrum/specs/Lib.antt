@@ -1,2 +1,3 @@
 pub mod Cepstrum
+pub mod Weights
 pub mod Examples

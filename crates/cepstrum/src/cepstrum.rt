@@ -5,7 +5,8 @@ ghost use Prim.Native.Nat.{_+_, _-_, _≤_, _<_};
 ghost use lib.ListN.{length, take, drop};
 ghost use Rattle.number.specs.F64.{0f};
 ghost use Rattle.vectors.specs.Vectors.{sumFrom};
-ghost use Rattle.cepstrum.specs.Cepstrum.{unwarped, mc2bOf, onward, pass, freqtOf, irTerm, c2irOf};
+ghost use Rattle.cepstrum.specs.Cepstrum.{unwarped, mc2bOf, onward, pass, passes, freqtOf, c2irOf};
+ghost use Rattle.cepstrum.specs.Weights.{weightsOf, weighedTerm};
 
 // The coefficients, where alpha is not 0: from the last one down.
 fn unwarp(c: &[f64], alpha: f64, b: &mut [f64])
@@ -61,28 +62,65 @@ fn pass_in(g: &mut [f64], alpha: f64, x: f64)
     onward_in(g, alpha, second, new);
 }
 
+// The passes, eight at a time as long as there are eight. Answers how many coefficients went in.
+fn eights_in(g: &mut [f64], alpha: f64, c: &[f64]) -> usize
+    requires { ⌜ 2 ≤ length (now g) ⌝ }
+    ensures { λ r. ⌜ (r ≤ length (now (c .entry))) × (passes alpha (drop r (now (c .entry))) (now (g .exit)) ≡ passes alpha (now (c .entry)) (now (g .entry))) ⌝ }
+{
+    let mut i = 0;
+    while c.len() - i >= 8 {
+        let next = i + 8;
+        wave::eight_in(g, alpha, &c[i..next]);
+        i = next;
+    }
+    i
+}
+
+// The passes one by one.
+fn singles_in(g: &mut [f64], alpha: f64, c: &[f64])
+    requires { ⌜ 2 ≤ length (now g) ⌝ }
+    ensures { λ _. ⌜ now (g .exit) ≡ passes alpha (now (c .entry)) (now (g .entry)) ⌝ }
+{
+    let mut i = 0;
+    while i < c.len() {
+        pass_in(g, alpha, c[i]);
+        i += 1;
+    }
+}
+
 // The warped cepstrum, of 576 entries.
 pub fn freqt(c: &[f64], alpha: f64) -> [f64; 576]
     ensures { λ r. ⌜ r ≡ freqtOf alpha 576 (now (c .entry)) ⌝ }
 {
     let mut g = [0.0; 576];
-    let mut i = 0;
-    while i < c.len() {
-        pass_in(&mut g, alpha, c[i]);
-        i += 1;
-    }
+    let done = eights_in(&mut g, alpha, c);
+    singles_in(&mut g, alpha, &c[done..]);
     g
 }
 
-// The sum of k * c[k] * ir[n - k] for k from 1 to n.
-fn ir_sum(c: &[f64], ir: &[f64], n: usize) -> f64
-    requires { ⌜ (n < length (now c)) × (n < length (now ir)) × (n < 576) ⌝ }
-    ensures { λ r. ⌜ r ≡ sumFrom (irTerm (now (c .entry)) (now (ir .entry)) n) 1 n 0f ⌝ }
+// k * c[k] for each k.
+pub fn weights(c: &[f64; 576]) -> [f64; 576]
+    requires { ⌜ length (now c) ≡ 576 ⌝ }
+    ensures { λ r. ⌜ r ≡ weightsOf 576 (now (c .entry)) ⌝ }
+{
+    let mut w = [0.0; 576];
+    let mut k = 0;
+    while k < 576 {
+        w[k] = k as f64 * c[k];
+        k += 1;
+    }
+    w
+}
+
+// The sum of w[k] * ir[n - k] for k from 1 to n.
+fn ir_sum(w: &[f64], ir: &[f64], n: usize) -> f64
+    requires { ⌜ (n < length (now w)) × (n < length (now ir)) × (n < 576) ⌝ }
+    ensures { λ r. ⌜ r ≡ sumFrom (weighedTerm (now (w .entry)) (now (ir .entry)) n) 1 n 0f ⌝ }
 {
     let mut d = 0.0;
     let mut k = 1;
     while k <= n {
-        d += k as f64 * c[k] * ir[n - k];
+        d += w[k] * ir[n - k];
         k += 1;
     }
     d
@@ -93,11 +131,12 @@ pub fn c2ir(c: &[f64; 576]) -> [f64; 576]
     requires { ⌜ length (now c) ≡ 576 ⌝ }
     ensures { λ r. ⌜ r ≡ c2irOf 576 (now (c .entry)) ⌝ }
 {
+    let w = weights(c);
     let mut ir = [0.0; 576];
     ir[0] = exponential::exp(c[0]);
     let mut n = 1;
     while n < 576 {
-        ir[n] = ir_sum(c, &ir, n) / n as f64;
+        ir[n] = ir_sum(&w, &ir, n) / n as f64;
         n += 1;
     }
     ir

@@ -2,7 +2,8 @@
 ghost use mathlib.Core.Path.{_≡_};
 ghost use Prim.Native.Nat.{_≤_};
 ghost use lib.ListN.{length};
-ghost use Rattle.cepstrum.specs.Cepstrum.{b2mcOf, b2enOf};
+ghost use Rattle.number.specs.F64.{−_};
+ghost use Rattle.cepstrum.specs.Cepstrum.{b2mcOf, freqtOf, b2enOf};
 use crate::cepstrum::c2ir;
 use crate::cepstrum::freqt;
 
@@ -19,15 +20,22 @@ pub fn b2mc(b: &[f64], alpha: f64, c: &mut [f64])
     }
 }
 
-// The energy, with room for the mel-cepstrum.
-fn energy_in(b: &[f64], alpha: f64, c: &mut [f64]) -> f64
+// The cepstrum without warping, of 576 entries, with room for the mel-cepstrum.
+fn b2c_in(b: &[f64], alpha: f64, c: &mut [f64]) -> [f64; 576]
     requires { ⌜ (1 ≤ length (now b)) × (length (now c) ≡ length (now b)) ⌝ }
-    ensures { λ r. ⌜ r ≡ b2enOf alpha (now (b .entry)) ⌝ }
+    ensures { λ r. ⌜ r ≡ freqtOf (− alpha) 576 (b2mcOf alpha (now (b .entry))) ⌝ }
 {
     b2mc(b, alpha, c);
-    let warped = freqt(c, -alpha);
-    let ir = c2ir(&warped);
-    vectors::energy(&ir)
+    freqt(c, -alpha)
+}
+
+// The cepstrum without warping, of 576 entries.
+pub fn b2c(b: &[f64], alpha: f64) -> [f64; 576]
+    requires { ⌜ (1 ≤ length (now b)) × (length (now b) ≤ 64) ⌝ }
+    ensures { λ r. ⌜ r ≡ freqtOf (− alpha) 576 (b2mcOf alpha (now (b .entry))) ⌝ }
+{
+    let mut c = [0.0; 64];
+    b2c_in(b, alpha, &mut c[0..b.len()])
 }
 
 // The energy of the impulse response.
@@ -35,6 +43,7 @@ pub fn b2en(b: &[f64], alpha: f64) -> f64
     requires { ⌜ (1 ≤ length (now b)) × (length (now b) ≤ 64) ⌝ }
     ensures { λ r. ⌜ r ≡ b2enOf alpha (now (b .entry)) ⌝ }
 {
-    let mut c = [0.0; 64];
-    energy_in(b, alpha, &mut c[0..b.len()])
+    let c = b2c(b, alpha);
+    let ir = c2ir(&c);
+    vectors::energy(&ir)
 }

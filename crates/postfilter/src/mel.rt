@@ -6,10 +6,10 @@ ghost use Rattle.elementary.specs.Outcome.{preparedOf, orElse};
 ghost use Rattle.postfilter.specs.Mel.{sharpenedOf, filteredMcp, postfilterMcpOf};
 use crate::acting;
 use cepstrum::cepstrum::mc2b;
-use cepstrum::coefficients::b2en;
 use cepstrum::coefficients::b2mc;
 use elementary::answer::Answer;
 use elementary::answer::Prepared;
+use energies::b2en_both;
 
 // Sharpens coefficients.
 fn sharpen(b: &mut [f64], alpha: f64, beta: f64)
@@ -20,21 +20,23 @@ fn sharpen(b: &mut [f64], alpha: f64, beta: f64)
     vectors::multiply_from(b, 2, 1.0 + beta);
 }
 
-// The postfilter where it acts, with room for the coefficients.
-fn filter_in(c: &mut [f64], alpha: f64, beta: f64, b: &mut [f64]) -> Prepared
-    requires { ⌜ (2 < length (now c)) × (length (now c) ≤ 64) × (length (now b) ≡ length (now c)) ⌝ }
+// The postfilter where it acts, with room for the coefficients as they are and sharpened.
+fn filter_in(c: &mut [f64], alpha: f64, beta: f64, b: &mut [f64], t: &mut [f64]) -> Prepared
+    requires { ⌜ (2 < length (now c)) × (length (now c) ≤ 64) × (length (now b) ≡ length (now c)) × (length (now t) ≡ length (now c)) ⌝ }
     ensures { λ r. ⌜ r ≡ preparedOf (filteredMcp alpha beta (now (c .entry))) ⌝ }
     ensures { λ _. ⌜ now (c .exit) ≡ orElse (now (c .entry)) (filteredMcp alpha beta (now (c .entry))) ⌝ }
 {
     mc2b(c, alpha, b);
-    let e1 = b2en(b, alpha);
-    sharpen(b, alpha, beta);
-    let e2 = b2en(b, alpha);
+    vectors::copy(b, t);
+    sharpen(t, alpha, beta);
+    let energies = b2en_both(b, t, alpha);
+    let e1 = energies.first;
+    let e2 = energies.second;
     let ratio = logarithm::ln(e1 / e2);
     match ratio {
         Answer::Inside(y) => {
-            b[0] = b[0] + y / 2.0;
-            b2mc(b, alpha, c);
+            t[0] = t[0] + y / 2.0;
+            b2mc(t, alpha, c);
             Prepared::Inside
         }
         Answer::Outside => Prepared::Outside,
@@ -52,5 +54,6 @@ pub fn postfilter_mcp(c: &mut [f64], alpha: f64, beta: f64) -> Prepared
         return Prepared::Inside;
     }
     let mut b = [0.0; 64];
-    filter_in(c, alpha, beta, &mut b[0..n])
+    let mut t = [0.0; 64];
+    filter_in(c, alpha, beta, &mut b[0..n], &mut t[0..n])
 }

@@ -1,26 +1,25 @@
 -- `c2ir` meets its contract: the first n entries are made. Assumes nothing.
-use mathlib.Core.Path.{_≡_, refl, ap, _∙_}
+use mathlib.Core.Path.{refl, ap}
 use Prim.Native.Nat.{_-_, _≤_}
 use native.Mathlib.Omega.{arith}
-use lib.ListN.{length, length-set, set, replicate}
-use lib.Ieee.{Float, binary64, ofInt}
-use lib.IntN.{pos}
-use Rattle.number.specs.F64.{0f, _⊘_}
-use Rattle.number.specs.Lists.{over}
-use Rattle.number.proofs.Lists.{over-end}
+use lib.ListN.{set, replicate}
+use lib.Ieee.{Float}
+use Rattle.number.specs.F64.{0f}
 use Rattle.vectors.specs.Vectors.{grown}
-use Rattle.cepstrum.specs.Cepstrum.{irEntry, c2irOf}
-use Rattle.cepstrum.proofs.CepstrumLaws.{ir-turn}
+use Rattle.cepstrum.proofs.CepstrumLaws.{Made, made-more, made-all}
 use Rattle.number.proofs.Floats.{small-float}
 use borrow.Author.Needs.{needs}
 use Rattle.cepstrum.proofs.cepstrum.c2ir.Statement.{statement}
 use Rattle.cepstrum.proofs.cepstrum.c2ir.Tie as tie
 
 abbrev Inv-loop : tie.InvT-loop
-Inv-loop c ir₀ n₀ ir n = (1 ≤ n) × (n ≤ 576) × (length ir ≡ 576) × (ir ≡ over (grown (irEntry c) n) n (replicate 576 0f))
+Inv-loop c w ir₀ n₀ ir n = (1 ≤ n) × (n ≤ 576) × Made c ir n
 
 abbrev μ-loop : tie.MeasureT-loop
-μ-loop c ir₀ n₀ ir n = 576 - n
+μ-loop c w ir₀ n₀ ir n = 576 - n
+
+weights-requires : tie.Need-weights-requires Inv-loop μ-loop
+weights-requires c κs = search needs
 
 element-copy-out-exp : tie.Need-element-copy-out-exp Inv-loop μ-loop
 element-copy-out-exp c = search needs
@@ -33,12 +32,13 @@ array-write-ir c = search needs
 
 loop-holds : tie.Need-loop-holds Inv-loop μ-loop
 unfolding grown
-loop-holds c =
-    let x = c .before .before .args .c .now in
-    (omega arith, omega arith, refl, ap (λ (y : Float). set (replicate 576 0f) 0 y) (c .exp .ensures .0))
+loop-holds c = (omega arith, omega arith, (refl, ap (λ (y : Float). set (replicate 576 0f) 0 y) (c .exp .ensures .0)))
 
 slice-aggregate-ir-sum : tie.Need-slice-aggregate-ir-sum Inv-loop μ-loop
 slice-aggregate-ir-sum c = search needs
+
+slice-aggregate-ir-sum-2 : tie.Need-slice-aggregate-ir-sum-2 Inv-loop μ-loop
+slice-aggregate-ir-sum-2 c = search needs
 
 ir-sum-requires : tie.Need-ir-sum-requires Inv-loop μ-loop
 ir-sum-requires c κs = search needs
@@ -61,20 +61,14 @@ loop-less c = search needs
 loop-again : tie.Need-loop-again Inv-loop μ-loop
 loop-again c =
     let top = c .before .before .before .before .before in
-    let x = top .before .before .before .args .c .now in
-    let ir = top .loop .ir in
-    let n = top .loop .n in
-    let turn = ir-turn x ir (replicate 576 0f) n (omega arith) (omega arith) (top .loop .inv .3) in
-    (omega arith, omega arith, length-set ir n _ ∙ top .loop .inv .2, ap (λ (y : Float). set ir n (y ⊘ ofInt binary64 (pos n))) (c .before .ir-sum .ensures) ∙ turn)
+    let start = top .before .before .before in
+    let sum = c .before .ir-sum in
+    (omega arith, omega arith, made-more (start .before .args .c .now) (start .weights .result) (top .loop .ir) (top .loop .n) (sum .result) (start .weights .ensures) (sum .ensures) (top .loop .inv .2) (omega arith) (omega arith))
 
 returns : tie.Need-returns Inv-loop μ-loop
-unfolding c2irOf
 returns c =
     let top = c .before in
-    let x = top .before .before .before .args .c .now in
-    let n = top .loop .n in
-    let e : n ≡ 576 = omega arith in
-    top .loop .inv .3 ∙ over-end (grown (irEntry x) n) (replicate 576 0f) n (omega arith) ∙ rw e refl
+    made-all (top .before .before .before .before .args .c .now) (top .loop .ir) (top .loop .n) (omega arith) (top .loop .inv .2)
 
 pub c2ir-spec : {M : Type 1} → statement M
 c2ir-spec =
@@ -82,11 +76,13 @@ c2ir-spec =
     (tie.spec
     Inv-loop
     μ-loop
+    weights-requires
     element-copy-out-exp
     exp-requires
     array-write-ir
     loop-holds
     slice-aggregate-ir-sum
+    slice-aggregate-ir-sum-2
     ir-sum-requires
     int-to-float-ir
     mul-ir

@@ -1,69 +1,59 @@
--- `freqt` meets its contract: the passes that are left, on the array as it is, give what all of them give on zeros. Assumes nothing.
-use mathlib.Core.Path.{_≡_, refl, sym, _∙_, ap}
-use Prim.Native.Nat.{_+_, _-_, _≤_}
+-- `freqt` meets its contract: the passes eight at a time, and those that are left one by one, are all of them on zeros. Assumes nothing.
+use mathlib.Core.Path.{_≡_, _∙_, ap}
 use native.Mathlib.Omega.{arith}
-use lib.ListN.{length, drop}
+use Prim.Native.Nat.{_-_}
+use mathlib.Core.List.{List}
+use lib.Ieee.{Float}
+use lib.ListN.{length, take, drop, length-drop}
+use lib.Seq.{take-all}
 use Rattle.cepstrum.specs.Cepstrum.{passes, freqtOf}
-use Rattle.cepstrum.proofs.CepstrumLaws.{passes-turn, passes-done}
 use borrow.Author.Needs.{needs}
 use Rattle.cepstrum.proofs.cepstrum.freqt.Statement.{statement}
 use Rattle.cepstrum.proofs.cepstrum.freqt.Tie as tie
 
-abbrev Inv-loop : tie.InvT-loop
-Inv-loop c alpha g₀ i₀ g i = (i ≤ length c) × (length g ≡ 576) × (passes alpha (drop i c) g ≡ freqtOf alpha 576 c)
+slice-aggregate-eights-in : tie.Need-slice-aggregate-eights-in
+slice-aggregate-eights-in c = search needs
 
-abbrev μ-loop : tie.MeasureT-loop
-μ-loop c alpha g₀ i₀ g i = length c - i
+eights-in-requires : tie.Need-eights-in-requires
+eights-in-requires c κs = search needs
 
-loop-holds : tie.Need-loop-holds Inv-loop μ-loop
+slice-aggregate-singles-in : tie.Need-slice-aggregate-singles-in
+slice-aggregate-singles-in c = search needs
+
+mul-singles-in : tie.Need-mul-singles-in
+mul-singles-in c = search needs
+
+sub-singles-in : tie.Need-sub-singles-in
+sub-singles-in c = search needs
+
+part-singles-in-start : tie.Need-part-singles-in-start
+part-singles-in-start c = search needs
+
+part-singles-in-end : tie.Need-part-singles-in-end
+part-singles-in-end c = search needs
+
+singles-in-requires : tie.Need-singles-in-requires
+singles-in-requires c κs = search needs
+
+returns : tie.Need-returns
 unfolding freqtOf
-loop-holds c = (omega arith, refl, refl)
-
-slice-aggregate-pass-in : tie.Need-slice-aggregate-pass-in Inv-loop μ-loop
-slice-aggregate-pass-in c = search needs
-
-mul-pass-in : tie.Need-mul-pass-in Inv-loop μ-loop
-mul-pass-in c = search needs
-
-shared-slice-read-pass-in : tie.Need-shared-slice-read-pass-in Inv-loop μ-loop
-shared-slice-read-pass-in c = search needs
-
-pass-in-requires : tie.Need-pass-in-requires Inv-loop μ-loop
-pass-in-requires c κs = search needs
-
-add-i : tie.Need-add-i Inv-loop μ-loop
-add-i c = search needs
-
-loop-less : tie.Need-loop-less Inv-loop μ-loop
-loop-less c = search needs
-
-loop-again : tie.Need-loop-again Inv-loop μ-loop
-loop-again c =
-    let top = c .before .before .before .before .before in
-    let a = top .before .before .args .alpha in
-    let cs = top .before .before .args .c .now in
-    let i = top .loop .i in
-    (omega arith, omega arith, ap (passes a (drop (i + 1) cs)) (c .before .pass-in .ensures) ∙ passes-turn a cs i (top .loop .g) (omega arith) ∙ top .loop .inv .2)
-
-returns : tie.Need-returns Inv-loop μ-loop
 returns c =
-    let top = c .before in
-    let a = top .before .before .args .alpha in
-    let cs = top .before .before .args .c .now in
-    sym (passes-done a cs (top .loop .i) (top .loop .g) (omega arith)) ∙ top .loop .inv .2
+    let top = c .before .before .before .before .before .before .before .before in
+    let cs = top .args .c .now in
+    let first = c .before .before .before .before .before .eights-in in
+    let part : take (length cs - first .result) (drop (first .result) cs) ≡ drop (first .result) cs = take-all (length cs - first .result) (drop (first .result) cs) (simp length-drop (omega arith)) in
+    c .before .singles-in .ensures ∙ ap (λ (l : List Float). passes (top .args .alpha) l (first .last .0)) part ∙ first .ensures .1
 
 pub freqt-spec : {M : Type 1} → statement M
 freqt-spec =
     tie.close
     (tie.spec
-    Inv-loop
-    μ-loop
-    loop-holds
-    slice-aggregate-pass-in
-    mul-pass-in
-    shared-slice-read-pass-in
-    pass-in-requires
-    add-i
-    loop-less
-    loop-again
+    slice-aggregate-eights-in
+    eights-in-requires
+    slice-aggregate-singles-in
+    mul-singles-in
+    sub-singles-in
+    part-singles-in-start
+    part-singles-in-end
+    singles-in-requires
     returns)

@@ -5,26 +5,22 @@ use native.Mathlib.Omega.{arith}
 use Rattle.number.specs.F64.{0f}
 use Rattle.vectors.specs.Vectors.{sumFrom}
 use Rattle.vectors.proofs.VectorLaws.{sum-turn, sum-done}
-use Rattle.cepstrum.specs.Cepstrum.{irTerm}
-use Rattle.number.proofs.Floats.{small-float}
+use Rattle.cepstrum.specs.Weights.{weighedTerm}
 use borrow.Author.Needs.{needs}
 use Rattle.cepstrum.proofs.cepstrum.ir_sum.Statement.{statement}
 use Rattle.cepstrum.proofs.cepstrum.ir_sum.Tie as tie
 
 abbrev Inv-loop : tie.InvT-loop
-Inv-loop c ir n d₀ k₀ d k = (1 ≤ k) × (sumFrom (irTerm c ir n) k (n + 1 - k) d ≡ sumFrom (irTerm c ir n) 1 n 0f)
+Inv-loop w ir n d₀ k₀ d k = (1 ≤ k) × (sumFrom (weighedTerm w ir n) k (n + 1 - k) d ≡ sumFrom (weighedTerm w ir n) 1 n 0f)
 
 abbrev μ-loop : tie.MeasureT-loop
-μ-loop c ir n d₀ k₀ d k = n + 1 - k
+μ-loop w ir n d₀ k₀ d k = n + 1 - k
 
 loop-holds : tie.Need-loop-holds Inv-loop μ-loop
 loop-holds c =
     let n = c .args .n in
     let e : n + 1 - 1 ≡ n = omega arith in
     (omega arith, rw e refl)
-
-int-to-float-d : tie.Need-int-to-float-d Inv-loop μ-loop
-int-to-float-d c = small-float _ (omega arith)
 
 mul-d : tie.Need-mul-d Inv-loop μ-loop
 mul-d c = search needs
@@ -46,15 +42,15 @@ loop-less c = search needs
 
 loop-again : tie.Need-loop-again Inv-loop μ-loop
 loop-again c =
-    let top = c .before .before .before .before in
+    let top = c .before .before .before in
     let a = top .before .args in
-    (omega arith, sum-turn (irTerm (a .c .now) (a .ir .now) (a .n)) (top .loop .k) (a .n + 1) (top .loop .d) (omega arith) ∙ top .loop .inv .1)
+    (omega arith, sum-turn (weighedTerm (a .w .now) (a .ir .now) (a .n)) (top .loop .k) (a .n + 1) (top .loop .d) (omega arith) ∙ top .loop .inv .1)
 
 returns : tie.Need-returns Inv-loop μ-loop
 returns c =
     let top = c .before in
     let a = top .before .args in
-    sym (sum-done (irTerm (a .c .now) (a .ir .now) (a .n)) (top .loop .k) (a .n + 1) (top .loop .d) (omega arith)) ∙ top .loop .inv .1
+    sym (sum-done (weighedTerm (a .w .now) (a .ir .now) (a .n)) (top .loop .k) (a .n + 1) (top .loop .d) (omega arith)) ∙ top .loop .inv .1
 
 pub ir-sum-spec : {M : Type 1} → statement M
 ir-sum-spec =
@@ -63,7 +59,6 @@ ir-sum-spec =
     Inv-loop
     μ-loop
     loop-holds
-    int-to-float-d
     mul-d
     shared-slice-read-d
     mul-d-2
