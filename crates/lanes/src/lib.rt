@@ -1,0 +1,121 @@
+// Four filters `fir` at once, on rows of taps that stand side by side: entry 4 * i + k is tap i of row k. Each lane does what `fir` does.
+ghost use mathlib.Core.Path.{_≡_};
+ghost use Prim.Native.Nat.{ℕ, _+_, _-_, _*_, _/_, _≤_, _<_};
+ghost use lib.ListN.{length};
+ghost use Rattle.fir.specs.Fir.{start, group, tap, groups, singles, firOf};
+ghost use Rattle.lanes.specs.Lane.{lane, side, sideOn, quadAt, putQuad, tapsOf};
+use fir::Carried;
+
+// A number for each lane.
+pub struct Quad {
+    pub a: f64,
+    pub b: f64,
+    pub c: f64,
+    pub d: f64,
+}
+
+// What is carried from tap to tap, for each lane.
+pub struct Abreast {
+    pub a: Carried,
+    pub b: Carried,
+    pub c: Carried,
+    pub d: Carried,
+}
+
+// Entry i of each lane.
+pub fn at(l: &[f64], i: usize) -> Quad
+    requires { ⌜ 4 * i + 3 < length (now l) ⌝ }
+    ensures { λ r. ⌜ r ≡ quadAt (now (l .entry)) i ⌝ }
+{
+    Quad {
+        a: l[4 * i],
+        b: l[4 * i + 1],
+        c: l[4 * i + 2],
+        d: l[4 * i + 3],
+    }
+}
+
+// Entry i of each lane is set.
+pub fn put(l: &mut [f64], i: usize, q: Quad)
+    requires { ⌜ (4 * i < length (now l)) × (4 * i + 1 < length (now l)) × (4 * i + 2 < length (now l)) × (4 * i + 3 < length (now l)) ⌝ }
+    ensures { λ _. ⌜ now (l .exit) ≡ putQuad (now (l .entry)) i q ⌝ }
+{
+    l[4 * i] = q.a;
+    l[4 * i + 1] = q.b;
+    l[4 * i + 2] = q.c;
+    l[4 * i + 3] = q.d;
+}
+
+// The first two taps.
+fn start(d: &mut [f64], a: f64, x: Quad, n: usize) -> Abreast
+    requires { ⌜ (1 < n) × (4 * n ≤ length (now d)) ⌝ }
+    ensures { λ r. ⌜ ((k : ℕ) → k < 4 → tapsOf k n (now (d .exit)) r ≡ start a (side k x) (lane k n (now (d .entry)))) ⌝ }
+{
+    let d1 = at(d, 1);
+    let ma = fir::first_two(a, x.a, d1.a);
+    let mb = fir::first_two(a, x.b, d1.b);
+    let mc = fir::first_two(a, x.c, d1.c);
+    let md = fir::first_two(a, x.d, d1.d);
+    put(d, 0, Quad { a: ma.e0, b: mb.e0, c: mc.e0, d: md.e0 });
+    put(d, 1, Quad { a: ma.e1, b: mb.e1, c: mc.e1, d: md.e1 });
+    let on_a = ma.on;
+    let on_b = mb.on;
+    let on_c = mc.on;
+    let on_d = md.on;
+    Abreast { a: on_a, b: on_b, c: on_c, d: on_d }
+}
+
+// Four taps from index i on: all are read, then made, then stored.
+fn group(d: &mut [f64], a: f64, c: &[f64], i: usize, s: Abreast) -> Abreast
+    requires { ⌜ (i + 3 < length (now c)) × (4 * length (now c) ≤ length (now d)) ⌝ }
+    ensures { λ r. ⌜ ((k : ℕ) → k < 4 → tapsOf k (length (now (c .entry))) (now (d .exit)) r ≡ group a (now (c .entry)) i (tapsOf k (length (now (c .entry))) (now (d .entry)) s)) ⌝ }
+{
+    let d0 = at(d, i);
+    let d1 = at(d, i + 1);
+    let d2 = at(d, i + 2);
+    let d3 = at(d, i + 3);
+    let c0 = c[i];
+    let c1 = c[i + 1];
+    let c2 = c[i + 2];
+    let c3 = c[i + 3];
+    let on_a = s.a;
+    let on_b = s.b;
+    let on_c = s.c;
+    let on_d = s.d;
+    let ma = fir::next_four(a, d0.a, d1.a, d2.a, d3.a, c0, c1, c2, c3, on_a);
+    let mb = fir::next_four(a, d0.b, d1.b, d2.b, d3.b, c0, c1, c2, c3, on_b);
+    let mc = fir::next_four(a, d0.c, d1.c, d2.c, d3.c, c0, c1, c2, c3, on_c);
+    let md = fir::next_four(a, d0.d, d1.d, d2.d, d3.d, c0, c1, c2, c3, on_d);
+    put(d, i, Quad { a: ma.e0, b: mb.e0, c: mc.e0, d: md.e0 });
+    put(d, i + 1, Quad { a: ma.e1, b: mb.e1, c: mc.e1, d: md.e1 });
+    put(d, i + 2, Quad { a: ma.e2, b: mb.e2, c: mc.e2, d: md.e2 });
+    put(d, i + 3, Quad { a: ma.e3, b: mb.e3, c: mc.e3, d: md.e3 });
+    let next_a = ma.on;
+    let next_b = mb.on;
+    let next_c = mc.on;
+    let next_d = md.on;
+    Abreast { a: next_a, b: next_b, c: next_c, d: next_d }
+}
+
+// One tap, at index i.
+fn tap(d: &mut [f64], a: f64, c: &[f64], i: usize, s: Abreast) -> Abreast
+    requires { ⌜ (i < length (now c)) × (4 * length (now c) ≤ length (now d)) ⌝ }
+    ensures { λ r. ⌜ ((k : ℕ) → k < 4 → tapsOf k (length (now (c .entry))) (now (d .exit)) r ≡ tap a (now (c .entry)) i (tapsOf k (length (now (c .entry))) (now (d .entry)) s)) ⌝ }
+{
+    let d0 = at(d, i);
+    let c0 = c[i];
+    let on_a = s.a;
+    let on_b = s.b;
+    let on_c = s.c;
+    let on_d = s.d;
+    let ma = fir::next_one(a, d0.a, c0, on_a);
+    let mb = fir::next_one(a, d0.b, c0, on_b);
+    let mc = fir::next_one(a, d0.c, c0, on_c);
+    let md = fir::next_one(a, d0.d, c0, on_d);
+    put(d, i, Quad { a: ma.e0, b: mb.e0, c: mc.e0, d: md.e0 });
+    let next_a = ma.on;
+    let next_b = mb.on;
+    let next_c = mc.on;
+    let next_d = md.on;
+    Abreast { a: next_a, b: next_b, c: next_c, d: next_d }
+}
