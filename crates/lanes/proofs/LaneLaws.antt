@@ -51,3 +51,11 @@ lane-set-other j k (suc n) (suc i) l v jh kh ne =
     let later : 4 * suc i + k ≡ 4 + (4 * i + k) = omega arith in
     let other : j ≢ 4 + (4 * i + k) = λ e. omega arith in
     rw (later, getD-set-other l (4 + (4 * i + k)) j v nan other, drop-set-add 4 l (4 * i + k) v, lane-set-other j k n i (drop 4 l) v jh kh ne) refl
+
+-- what holds of each of the four lanes
+pub each-lane : (P : ℕ → Type 0) → P 0 → P 1 → P 2 → P 3 → (k : ℕ) → k < 4 → P k
+each-lane P p q r s zero h = p
+each-lane P p q r s (suc zero) h = q
+each-lane P p q r s (suc (suc zero)) h = r
+each-lane P p q r s (suc (suc (suc zero))) h = s
+each-lane P p q r s (suc (suc (suc (suc k)))) h = absurd (omega arith)

@@ -72,6 +72,27 @@ module _ (n i : ℕ) (l m : List Float) (q : Quad) (e : m ≡ putQuad l i q) (h 
   pub put-long : 4 * n ≤ length m
   put-long = rw e (simp length-set long)
 
+-- two entries stored from i on, and four
+module _ (n i : ℕ) (l l1 l2 : List Float) (q0 q1 : Quad) (e0 : l1 ≡ putQuad l i q0) (e1 : l2 ≡ putQuad l1 (i + 1) q1) (h : i + 1 < n) (long : 4 * n ≤ length l) where
+  pub two-put : (k : ℕ) → k < 4 → lane k n l2 ≡ set (set (lane k n l) i (side k q0)) (i + 1) (side k q1)
+  two-put k kh =
+      quad-put n (i + 1) l1 l2 q1 e1 h (put-long n i l l1 q0 e0 (omega arith) long) k kh
+      ∙ ap (λ (t : List Float). set t (i + 1) (side k q1)) (quad-put n i l l1 q0 e0 (omega arith) long k kh)
+
+  pub two-long : 4 * n ≤ length l2
+  two-long = put-long n (i + 1) l1 l2 q1 e1 h (put-long n i l l1 q0 e0 (omega arith) long)
+
+module _ (n i : ℕ) (l l1 l2 l3 l4 : List Float) (q0 q1 q2 q3 : Quad)
+    (e0 : l1 ≡ putQuad l i q0) (e1 : l2 ≡ putQuad l1 (i + 1) q1) (e2 : l3 ≡ putQuad l2 (i + 2) q2) (e3 : l4 ≡ putQuad l3 (i + 3) q3)
+    (h : i + 3 < n) (long : 4 * n ≤ length l) where
+  pub four-put : (k : ℕ) → k < 4 → lane k n l4 ≡ set (set (set (set (lane k n l) i (side k q0)) (i + 1) (side k q1)) (i + 2) (side k q2)) (i + 3) (side k q3)
+  four-put k kh =
+      let long2 : 4 * n ≤ length l2 = two-long n i l l1 l2 q0 q1 e0 e1 (omega arith) long in
+      quad-put n (i + 3) l3 l4 q3 e3 h (put-long n (i + 2) l2 l3 q2 e2 (omega arith) long2) k kh
+      ∙ ap (λ (t : List Float). set t (i + 3) (side k q3))
+      (quad-put n (i + 2) l2 l3 q2 e2 (omega arith) long2 k kh
+      ∙ ap (λ (t : List Float). set t (i + 2) (side k q2)) (two-put n i l l1 l2 q0 q1 e0 e1 (omega arith) long k kh))
+
 -- ---- taps of a list l, by the taps p that were read and the list after the stores
 
 pub start-stored : (a x : Float) (l after : List Float) (p : Float) (m : Two) → p ≡ l ‼ 1 → after ≡ set (set l 0 (m .e0)) 1 (m .e1)

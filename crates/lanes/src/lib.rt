@@ -70,14 +70,17 @@ fn group(d: &mut [f64], a: f64, c: &[f64], i: usize, s: Abreast) -> Abreast
     requires { ⌜ (i + 3 < length (now c)) × (4 * length (now c) ≤ length (now d)) ⌝ }
     ensures { λ r. ⌜ ((k : ℕ) → k < 4 → tapsOf k (length (now (c .entry))) (now (d .exit)) r ≡ group a (now (c .entry)) i (tapsOf k (length (now (c .entry))) (now (d .entry)) s)) ⌝ }
 {
+    let i1 = i + 1;
+    let i2 = i + 2;
+    let i3 = i + 3;
     let d0 = at(d, i);
-    let d1 = at(d, i + 1);
-    let d2 = at(d, i + 2);
-    let d3 = at(d, i + 3);
+    let d1 = at(d, i1);
+    let d2 = at(d, i2);
+    let d3 = at(d, i3);
     let c0 = c[i];
-    let c1 = c[i + 1];
-    let c2 = c[i + 2];
-    let c3 = c[i + 3];
+    let c1 = c[i1];
+    let c2 = c[i2];
+    let c3 = c[i3];
     let on_a = s.a;
     let on_b = s.b;
     let on_c = s.c;
@@ -87,9 +90,9 @@ fn group(d: &mut [f64], a: f64, c: &[f64], i: usize, s: Abreast) -> Abreast
     let mc = fir::next_four(a, d0.c, d1.c, d2.c, d3.c, c0, c1, c2, c3, on_c);
     let md = fir::next_four(a, d0.d, d1.d, d2.d, d3.d, c0, c1, c2, c3, on_d);
     put(d, i, Quad { a: ma.e0, b: mb.e0, c: mc.e0, d: md.e0 });
-    put(d, i + 1, Quad { a: ma.e1, b: mb.e1, c: mc.e1, d: md.e1 });
-    put(d, i + 2, Quad { a: ma.e2, b: mb.e2, c: mc.e2, d: md.e2 });
-    put(d, i + 3, Quad { a: ma.e3, b: mb.e3, c: mc.e3, d: md.e3 });
+    put(d, i1, Quad { a: ma.e1, b: mb.e1, c: mc.e1, d: md.e1 });
+    put(d, i2, Quad { a: ma.e2, b: mb.e2, c: mc.e2, d: md.e2 });
+    put(d, i3, Quad { a: ma.e3, b: mb.e3, c: mc.e3, d: md.e3 });
     let next_a = ma.on;
     let next_b = mb.on;
     let next_c = mc.on;
