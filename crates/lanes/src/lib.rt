@@ -122,3 +122,52 @@ fn tap(d: &mut [f64], a: f64, c: &[f64], i: usize, s: Abreast) -> Abreast
     let next_d = md.on;
     Abreast { a: next_a, b: next_b, c: next_c, d: next_d }
 }
+
+// The groups of four from index 2 on, as many as there are.
+fn groups(d: &mut [f64], a: f64, c: &[f64], first: Abreast) -> Abreast
+    requires { ⌜ (2 ≤ length (now c)) × (4 * length (now c) ≤ length (now d)) ⌝ }
+    ensures { λ r. ⌜ ((k : ℕ) → k < 4 → tapsOf k (length (now (c .entry))) (now (d .exit)) r
+        ≡ groups a (now (c .entry)) ((length (now (c .entry)) - 2) / 4) 2 (tapsOf k (length (now (c .entry))) (now (d .entry)) first)) ⌝ }
+{
+    let mut s = first;
+    let mut i = 2;
+    while i + 4 <= c.len() {
+        s = group(d, a, c, i, s);
+        i += 4;
+    }
+    s
+}
+
+// The taps from index `from` on, one by one.
+fn singles(d: &mut [f64], a: f64, c: &[f64], from: usize, first: Abreast) -> Abreast
+    requires { ⌜ (from ≤ length (now c)) × (4 * length (now c) ≤ length (now d)) ⌝ }
+    ensures { λ r. ⌜ ((k : ℕ) → k < 4 → tapsOf k (length (now (c .entry))) (now (d .exit)) r
+        ≡ singles a (now (c .entry)) (length (now (c .entry)) - from) from (tapsOf k (length (now (c .entry))) (now (d .entry)) first)) ⌝ }
+{
+    let mut s = first;
+    let mut i = from;
+    while i < c.len() {
+        s = tap(d, a, c, i, s);
+        i += 1;
+    }
+    s
+}
+
+// The answer of each lane, whose taps after it are left in d.
+pub fn fir(d: &mut [f64], x: Quad, alpha: f64, c: &[f64]) -> Quad
+    requires { ⌜ (2 ≤ length (now c)) × (4 * length (now c) ≤ length (now d)) ⌝ }
+    ensures { λ r. ⌜ ((k : ℕ) → k < 4 → record { d = lane k (length (now (c .entry))) (now (d .exit)); y = side k r }
+        ≡ firOf alpha (side k x) (now (c .entry)) (lane k (length (now (c .entry))) (now (d .entry)))) ⌝ }
+{
+    let n = c.len();
+    let first = start(d, alpha, x, n);
+    let grouped = groups(d, alpha, c, first);
+    let from = 2 + (n - 2) / 4 * 4;
+    let s = singles(d, alpha, c, from, grouped);
+    Quad {
+        a: s.a.y0 + s.a.y1,
+        b: s.b.y0 + s.b.y1,
+        c: s.c.y0 + s.c.y1,
+        d: s.d.y0 + s.d.y1,
+    }
+}
