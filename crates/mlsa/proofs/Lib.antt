@@ -1,1 +1,2 @@
 mod MlsaLaws
+pub mod LaidLaws
