@@ -1,2 +1,3 @@
 mod MlsaLaws
-pub mod LaidLaws
+mod LaidLaws
+mod LayoutLaws
