@@ -85,7 +85,18 @@ fn between(
 {
     let n = c.len();
     layout::lay(four, d21, n);
-    samples_in(samples, c, increments, alpha, volume, d11, d12, four, d21, d22);
+    samples_in(
+        samples,
+        c,
+        increments,
+        alpha,
+        volume,
+        d11,
+        d12,
+        four,
+        d21,
+        d22,
+    );
     layout::lay_back(d21, four, n);
 }
 
@@ -108,5 +119,16 @@ pub fn stretch_in(
         (state (now (c .entry)) (filter (now (d11 .entry)) (now (d12 .entry)) (now (d21 .entry)) (now (d22 .entry)))) (now (samples .entry)) ⌝ }
 {
     let mut four = [0.0; 256];
-    between(samples, c, increments, alpha, volume, d11, d12, &mut four, d21, d22);
+    between(
+        samples,
+        c,
+        increments,
+        alpha,
+        volume,
+        d11,
+        d12,
+        &mut four,
+        d21,
+        d22,
+    );
 }

@@ -38,14 +38,19 @@ module _ (n i : ℕ) (l m : List Float) (q : Quad) (e : m ≡ putQuad l i q) (h 
     where
       first : 4 * i + 0 ≡ 4 * i
       first = omega arith
+
       one : List Float
       one = set l (4 * i) (q .a)
+
       two : List Float
       two = set one (4 * i + 1) (q .b)
+
       three : List Float
       three = set two (4 * i + 2) (q .c)
+
       at-first : (j : ℕ) → j < 4 → j ≢ 0 → lane j n one ≡ lane j n l
       at-first j jh ne = rw first at (lane-set-other j 0 n i l (q .a) jh (omega arith) ne)
+
       here : (k : ℕ) → k < 4 → lane k n (putQuad l i q) ≡ set (lane k n l) i (side k q)
       here zero kh =
           lane-set-other 0 3 n i three (q .d) kh (omega arith) (λ z. omega arith)

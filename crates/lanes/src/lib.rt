@@ -36,14 +36,14 @@ pub fn at(l: &[f64], i: usize) -> Quad
 }
 
 // Entry i of each lane is set.
-pub fn put(l: &mut [f64], i: usize, q: Quad)
+pub fn put(l: &mut [f64], i: usize, a: f64, b: f64, c: f64, d: f64)
     requires { ⌜ (4 * i < length (now l)) × (4 * i + 1 < length (now l)) × (4 * i + 2 < length (now l)) × (4 * i + 3 < length (now l)) ⌝ }
-    ensures { λ _. ⌜ now (l .exit) ≡ putQuad (now (l .entry)) i q ⌝ }
+    ensures { λ _. ⌜ now (l .exit) ≡ putQuad (now (l .entry)) i (record { a = a; b = b; c = c; d = d }) ⌝ }
 {
-    l[4 * i] = q.a;
-    l[4 * i + 1] = q.b;
-    l[4 * i + 2] = q.c;
-    l[4 * i + 3] = q.d;
+    l[4 * i] = a;
+    l[4 * i + 1] = b;
+    l[4 * i + 2] = c;
+    l[4 * i + 3] = d;
 }
 
 // The first two taps.
@@ -56,13 +56,18 @@ fn start(d: &mut [f64], a: f64, x: Quad, n: usize) -> Abreast
     let mb = fir::first_two(a, x.b, d1.b);
     let mc = fir::first_two(a, x.c, d1.c);
     let md = fir::first_two(a, x.d, d1.d);
-    put(d, 0, Quad { a: ma.e0, b: mb.e0, c: mc.e0, d: md.e0 });
-    put(d, 1, Quad { a: ma.e1, b: mb.e1, c: mc.e1, d: md.e1 });
+    put(d, 0, ma.e0, mb.e0, mc.e0, md.e0);
+    put(d, 1, ma.e1, mb.e1, mc.e1, md.e1);
     let on_a = ma.on;
     let on_b = mb.on;
     let on_c = mc.on;
     let on_d = md.on;
-    Abreast { a: on_a, b: on_b, c: on_c, d: on_d }
+    Abreast {
+        a: on_a,
+        b: on_b,
+        c: on_c,
+        d: on_d,
+    }
 }
 
 // Four taps from index i on: all are read, then made, then stored.
@@ -89,15 +94,20 @@ fn group(d: &mut [f64], a: f64, c: &[f64], i: usize, s: Abreast) -> Abreast
     let mb = fir::next_four(a, d0.b, d1.b, d2.b, d3.b, c0, c1, c2, c3, on_b);
     let mc = fir::next_four(a, d0.c, d1.c, d2.c, d3.c, c0, c1, c2, c3, on_c);
     let md = fir::next_four(a, d0.d, d1.d, d2.d, d3.d, c0, c1, c2, c3, on_d);
-    put(d, i, Quad { a: ma.e0, b: mb.e0, c: mc.e0, d: md.e0 });
-    put(d, i1, Quad { a: ma.e1, b: mb.e1, c: mc.e1, d: md.e1 });
-    put(d, i2, Quad { a: ma.e2, b: mb.e2, c: mc.e2, d: md.e2 });
-    put(d, i3, Quad { a: ma.e3, b: mb.e3, c: mc.e3, d: md.e3 });
+    put(d, i, ma.e0, mb.e0, mc.e0, md.e0);
+    put(d, i1, ma.e1, mb.e1, mc.e1, md.e1);
+    put(d, i2, ma.e2, mb.e2, mc.e2, md.e2);
+    put(d, i3, ma.e3, mb.e3, mc.e3, md.e3);
     let next_a = ma.on;
     let next_b = mb.on;
     let next_c = mc.on;
     let next_d = md.on;
-    Abreast { a: next_a, b: next_b, c: next_c, d: next_d }
+    Abreast {
+        a: next_a,
+        b: next_b,
+        c: next_c,
+        d: next_d,
+    }
 }
 
 // One tap, at index i.
@@ -115,12 +125,17 @@ fn tap(d: &mut [f64], a: f64, c: &[f64], i: usize, s: Abreast) -> Abreast
     let mb = fir::next_one(a, d0.b, c0, on_b);
     let mc = fir::next_one(a, d0.c, c0, on_c);
     let md = fir::next_one(a, d0.d, c0, on_d);
-    put(d, i, Quad { a: ma.e0, b: mb.e0, c: mc.e0, d: md.e0 });
+    put(d, i, ma.e0, mb.e0, mc.e0, md.e0);
     let next_a = ma.on;
     let next_b = mb.on;
     let next_c = mc.on;
     let next_d = md.on;
-    Abreast { a: next_a, b: next_b, c: next_c, d: next_d }
+    Abreast {
+        a: next_a,
+        b: next_b,
+        c: next_c,
+        d: next_d,
+    }
 }
 
 // The groups of four from index 2 on, as many as there are.

@@ -115,7 +115,7 @@ module _ (alpha : Float) (c four after d22 : List Float) (heads y : Quad) (s : S
       let was = lanesOf n four in
       let f : ℕ → Filtered = λ k. record { d = lane k n after; y = side k y } in
       let reads : (k : ℕ) → k < 4 → (d2 : List Float) → side k (quadAt d22 0) ≡ d2 ‼ k → f k ≡ firOf alpha (d2 ‼ k) c (lane k n four) =
-          λ k h d2 e. made k h ∙ ap (λ (x : Float). firOf alpha x c (lane k n four)) (ap (side k) at ∙ e) in
+      λ k h d2 e. made k h ∙ ap (λ (x : Float). firOf alpha x c (lane k n four)) (ap (side k) at ∙ e) in
       let d4 = set d22 4 (y .d) in
       let d3 = set d4 3 (y .c) in
       let d2 = set d3 2 (y .b) in
@@ -149,6 +149,6 @@ df2-laid alpha c four four' d21 d21' d22 d22₁ d22' x r s heads y long fifth at
     let n = length c in
     let first : Sums = record { x = x; out = 0f } in
     let laid : secondRow alpha c 5 (part (flat n four d21) d22 first) ≡ part (flat n four d21') d22₁ s =
-        fifth-laid alpha c four d21 d22 first (omega arith) ∙ ap (λ (p : Part). part (flat n four (p .d1)) (p .d2) (p .sums)) (sym fifth) in
+    fifth-laid alpha c four d21 d22 first (omega arith) ∙ ap (λ (p : Part). part (flat n four (p .d1)) (p .d2) (p .sums)) (sym fifth) in
     weighs (flat n four' d21')
     ∙ ap ended (sym (ap (downward (secondRow alpha c) 4) laid ∙ four-laid alpha c four four' d22₁ heads y s (drop (4 * n) d21') at made))

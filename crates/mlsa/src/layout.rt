@@ -6,7 +6,6 @@ ghost use Rattle.number.specs.F64.{_‼_};
 ghost use Rattle.number.specs.Lists.{putRow};
 ghost use Rattle.lanes.specs.Lane.{lane};
 ghost use Rattle.mlsa.specs.Laid.{flat};
-use lanes::Quad;
 
 // Tap i of each of the four rows of n taps is laid.
 fn lay_tap(four: &mut [f64], d21: &[f64], n: usize, i: usize)
@@ -17,7 +16,7 @@ fn lay_tap(four: &mut [f64], d21: &[f64], n: usize, i: usize)
     let b = d21[n + i];
     let c = d21[2 * n + i];
     let d = d21[3 * n + i];
-    lanes::put(four, i, Quad { a, b, c, d });
+    lanes::put(four, i, a, b, c, d);
 }
 
 // The four rows of n taps are laid.

@@ -161,7 +161,14 @@ fn answer(d22: &mut [f64], y: Quad, s: Sums) -> f64
 }
 
 // The second part, with rows 1 to 4 at once: each reads the answer of the row before it as it was, so that row 5 goes first.
-fn df2_laid(four: &mut [f64], d21: &mut [f64], d22: &mut [f64], x: f64, alpha: f64, c: &[f64]) -> f64
+fn df2_laid(
+    four: &mut [f64],
+    d21: &mut [f64],
+    d22: &mut [f64],
+    x: f64,
+    alpha: f64,
+    c: &[f64],
+) -> f64
     requires { ⌜ (length (now d22) ≡ 6) × (2 ≤ length (now c)) × (4 * length (now c) ≤ length (now four)) × (6 * length (now c) ≤ length (now d21)) ⌝ }
     ensures { λ r. ⌜ passed (flat (length (now (c .entry))) (now (four .exit)) (now (d21 .exit))) (now (d22 .exit)) r
         ≡ df2Of alpha (now (c .entry)) (flat (length (now (c .entry))) (now (four .entry)) (now (d21 .entry))) (now (d22 .entry)) x ⌝ }

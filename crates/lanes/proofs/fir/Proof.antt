@@ -48,7 +48,7 @@ returns c =
     let n = length (given .c .now) in
     let s = c .before .before .before .before .before .before .singles .result in
     let made : (k : ℕ) → k < 4 → filtered (record { d = lane k n (c .before .before .before .before .before .before .singles .last .0); on = sideOn k s }) ≡ firOf (given .alpha) (side k (given .x)) (given .c .now) (lane k n (given .d .now)) =
-        λ k h. ap filtered (taps-by _ _ _ (lane k n (given .d .now)) n _ _ _ (length-lane k n (given .d .now)) (c .before .before .before .before .before .before .before .before .before .before .before .before .before .before .before .before .before .before .pre .0) (c .before .before .before .before .before .before .before .before .before .before .before .before .before .before .start .ensures k h) (c .before .before .before .before .before .before .before .before .before .before .groups .ensures k h) (c .before .before .before .before .before .before .singles .ensures k h)) in
+    λ k h. ap filtered (taps-by _ _ _ (lane k n (given .d .now)) n _ _ _ (length-lane k n (given .d .now)) (c .before .before .before .before .before .before .before .before .before .before .before .before .before .before .before .before .before .before .pre .0) (c .before .before .before .before .before .before .before .before .before .before .before .before .before .before .start .ensures k h) (c .before .before .before .before .before .before .before .before .before .before .groups .ensures k h) (c .before .before .before .before .before .before .singles .ensures k h)) in
     each-lane _ (made 0 (omega arith)) (made 1 (omega arith)) (made 2 (omega arith)) (made 3 (omega arith))
 
 pub fir-spec : {M : Type 1} → statement M

@@ -50,9 +50,17 @@ loop-less c = simp length-set (omega arith)
 loop-again : tie.Need-loop-again Inv-loop μ-loop
 loop-again c =
     let top = c .before .before .before .before .before .before .before .before .before .before .before .before .before .before .before .before .before .before .before .before .before in
-    let more = c .before .before .before .before .before .before .before .before .before .before .before .before .before .before .before .before .before .before .before .before .loop-test .taken in
-    (simp length-set (omega arith), simp length-set (omega arith), omega arith, omega arith, omega arith, omega arith, omega arith, omega arith,
-    through-turn _ (top .loop .i) _ (top .loop .samples) nan _ (omega arith) (c .before .before .before .before .before .before .before .before .before .before .before .before .sample .ensures _ (top .loop .inv .2)) ∙ top .loop .inv .8)
+    let more = c .before .before .before .before .before .before .before .before .before .before .before .before .before .before .before .before .before .before .before .before .loop-test .taken in (
+      simp length-set (omega arith),
+      simp length-set (omega arith),
+      omega arith,
+      omega arith,
+      omega arith,
+      omega arith,
+      omega arith,
+      omega arith,
+      through-turn _ (top .loop .i) _ (top .loop .samples) nan _ (omega arith) (c .before .before .before .before .before .before .before .before .before .before .before .before .sample .ensures _ (top .loop .inv .2)) ∙ top .loop .inv .8,
+    )
 
 same-length : tie.Need-same-length Inv-loop μ-loop
 same-length c = omega arith
