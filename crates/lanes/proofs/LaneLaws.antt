@@ -1,15 +1,14 @@
 -- What is read and stored in a lane. Assumes nothing.
-use mathlib.Core.Path.{_≡_, refl, ap, sym, _∙_}
+use mathlib.Core.Path.{_≡_, refl, ap, _∙_}
 use mathlib.Core.Logic.{_≢_}
-use mathlib.Core.List.{List, [], _∷_}
-use Prim.Native.Nat.{ℕ, zero, suc, _+_, _-_, _*_, _≤_, _<_}
+use mathlib.Core.List.{List}
+use Prim.Native.Nat.{ℕ, zero, suc, _+_, _*_, _≤_, _<_}
 use native.Mathlib.Omega.{arith}
-use lib.ListN.{length, drop, set, length-drop, length-set}
+use lib.ListN.{length, drop, set, length-drop}
 use lib.Seq.{getD-drop, getD-set-same, getD-set-other, drop-set-lt, drop-set-add}
 use lib.Ieee.{Float, nan}
 use Rattle.number.specs.F64.{_‼_}
-use Rattle.lanes.specs.declared.Quad.{Quad}
-use Rattle.lanes.specs.Lane.{lane, side, quadAt, putQuad}
+use Rattle.lanes.specs.Lane.{lane}
 
 pub length-lane : (k n : ℕ) (l : List Float) → length (lane k n l) ≡ n
 unfolding lane

@@ -1,8 +1,8 @@
 -- The taps of a lane by what is read, made and stored of all four; and all taps of a lane. Assumes nothing.
-use mathlib.Core.Path.{_≡_, refl, ap, sym, _∙_}
+use mathlib.Core.Path.{_≡_, ap, sym, _∙_}
 use mathlib.Core.List.{List, [], _∷_}
 use mathlib.Core.Logic.{_≢_}
-use Prim.Native.Nat.{ℕ, zero, suc, _+_, _-_, _*_, _/_, _≤_, _<_}
+use Prim.Native.Nat.{ℕ, zero, suc, _+_, _*_, _≤_, _<_}
 use native.Mathlib.Omega.{arith}
 use lib.ListN.{length, set, length-set}
 use lib.Ieee.{Float}
@@ -15,7 +15,7 @@ use Rattle.fir.specs.Fir.{Taps, start, group, tap}
 use Rattle.fir.proofs.FirLaws.{start-alone, group-alone, tap-alone}
 use Rattle.lanes.specs.declared.Quad.{Quad}
 use Rattle.lanes.specs.Lane.{lane, side, quadAt, putQuad}
-use Rattle.lanes.proofs.LaneLaws.{length-lane, lane-at, lane-set, lane-set-other}
+use Rattle.lanes.proofs.LaneLaws.{lane-at, lane-set, lane-set-other}
 
 -- ---- entry i of all lanes, read and stored
 

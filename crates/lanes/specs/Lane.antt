@@ -3,7 +3,7 @@ use mathlib.Core.Path.{_≡_, refl}
 use mathlib.Core.List.{List, [], _∷_}
 use Prim.Native.Nat.{ℕ, zero, suc, _+_, _*_}
 use lib.ListN.{drop, set}
-use lib.Ieee.{Float, ofBits}
+use lib.Ieee.{Float}
 use Rattle.number.specs.F64.{_‼_, 0f, ½f, 1f, 2f}
 use Rattle.fir.specs.declared.Carried.{Carried}
 use Rattle.fir.specs.Fir.{Taps}

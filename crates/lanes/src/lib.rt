@@ -3,7 +3,7 @@ ghost use mathlib.Core.Path.{_≡_};
 ghost use Prim.Native.Nat.{ℕ, _+_, _-_, _*_, _/_, _≤_, _<_};
 ghost use lib.ListN.{length};
 ghost use Rattle.fir.specs.Fir.{start, group, tap, groups, singles, firOf};
-ghost use Rattle.lanes.specs.Lane.{lane, side, sideOn, quadAt, putQuad, tapsOf};
+ghost use Rattle.lanes.specs.Lane.{lane, side, quadAt, putQuad, tapsOf};
 use fir::Carried;
 
 // A number for each lane.

@@ -4,7 +4,7 @@ use mathlib.Core.List.{List, [], _∷_, _++_, append-assoc}
 use Prim.Native.Nat.{ℕ, zero, suc, _+_, _-_, _*_, _≤_, _<_}
 use native.Mathlib.Omega.{arith}
 use lib.ListN.{length, take, drop, set, getD}
-use lib.Seq.{take-at, drop-at, drop-drop, take-append-add, drop-append-add, getD-set-other, length-take-le}
+use lib.Seq.{take-at, drop-at, take-append-add, drop-append-add, getD-set-other, length-take-le}
 use lib.Ieee.{Float, nan}
 use Rattle.number.specs.F64.{_‼_, 0f}
 use Rattle.number.specs.Lists.{row, putRow}

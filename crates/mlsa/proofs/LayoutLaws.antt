@@ -12,7 +12,7 @@ use Rattle.number.specs.Lists.{over, row, putRow}
 use Rattle.number.proofs.Lists.{over-known, over-end, length-row}
 use Rattle.lanes.specs.Lane.{lane}
 use Rattle.lanes.proofs.LaneLaws.{length-lane, lane-at}
-use Rattle.mlsa.specs.Laid.{joined, lanesOf, flat}
+use Rattle.mlsa.specs.Laid.{joined, flat}
 use Rattle.mlsa.proofs.MlsaLaws.{row-within}
 use Rattle.mlsa.proofs.LaidLaws.{Each, put-joined}
 

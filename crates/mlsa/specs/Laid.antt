@@ -3,7 +3,7 @@ use mathlib.Core.Path.{_≡_, refl}
 use mathlib.Core.List.{List, [], _∷_, _++_}
 use Prim.Native.Nat.{ℕ, _*_}
 use lib.ListN.{drop, set, replicate}
-use lib.Ieee.{Float, ofBits}
+use lib.Ieee.{Float}
 use Rattle.number.specs.F64.{0f, ½f, 1f, 2f}
 use Rattle.lanes.specs.declared.Quad.{Quad}
 use Rattle.lanes.specs.Lane.{lane}

@@ -1,12 +1,10 @@
 -- `group` meets its contract: each lane has its four taps. Assumes nothing.
 use borrow.Author.Needs.{needs}
-use mathlib.Core.Path.{_≡_, _∙_, ap}
-use mathlib.Core.List.{List}
+use mathlib.Core.Path.{_≡_}
 use Prim.Native.Nat.{_+_}
 use native.Mathlib.Omega.{arith}
-use lib.ListN.{length, set}
-use lib.Ieee.{Float}
-use Rattle.lanes.specs.Lane.{lane, side}
+use lib.ListN.{length}
+use Rattle.lanes.specs.Lane.{lane}
 use Rattle.lanes.proofs.LaneLaws.{each-lane}
 use Rattle.lanes.proofs.TapLaws.{quad-read, four-put, group-stored}
 use Rattle.lanes.proofs.group.Statement.{statement}

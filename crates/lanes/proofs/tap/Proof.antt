@@ -1,6 +1,5 @@
 -- `tap` meets its contract: each lane has its tap. Assumes nothing.
 use borrow.Author.Needs.{needs}
-use mathlib.Core.Path.{_≡_}
 use native.Mathlib.Omega.{arith}
 use lib.ListN.{length}
 use Rattle.lanes.specs.Lane.{lane}
