@@ -1,3 +1,4 @@
 // A stretch of excitation samples made into finished samples, in place: gain, filter, coefficients on by their increments, volume.
+pub mod laid;
 pub mod nonzero;
 pub mod zero;

@@ -6,10 +6,11 @@ ghost use Rattle.history.specs.Through.{passage, through};
 ghost use Rattle.mlsa.specs.Mlsa.{filter};
 ghost use Rattle.filter.specs.Sample.{state};
 ghost use Rattle.filter.specs.Zero.{gained, sampleOf};
+use crate::laid;
 use mlsa::MelLogSpectrumApproximation;
 
 // The sample times exp(c[0]), where it is not 0.
-fn gain(x: f64, c: &[f64]) -> f64
+pub fn gain(x: f64, c: &[f64]) -> f64
     requires { ⌜ 0 < length (now c) ⌝ }
     ensures { λ r. ⌜ r ≡ gained (now (c .entry)) x ⌝ }
 {
@@ -43,8 +44,8 @@ fn sample(
     y * volume
 }
 
-// The samples of a stretch, with the filter's taps lent one by one.
-pub fn stretch_in(
+// The samples of a stretch, one row of taps after the other.
+fn plain(
     samples: &mut [f64],
     c: &mut [f64],
     increments: &[f64],
@@ -67,6 +68,31 @@ pub fn stretch_in(
         let y = sample(x, c, increments, alpha, volume, d11, d12, d21, d22);
         samples[i] = y;
         i += 1;
+    }
+}
+
+// The samples of a stretch, with the filter's taps lent one by one: side by side where there is room for them.
+pub fn stretch_in(
+    samples: &mut [f64],
+    c: &mut [f64],
+    increments: &[f64],
+    alpha: f64,
+    volume: f64,
+    d11: &mut [f64],
+    d12: &mut [f64],
+    d21: &mut [f64],
+    d22: &mut [f64],
+)
+    requires { ⌜ (2 ≤ length (now c)) × (length (now increments) ≡ length (now c)) × (6 * length (now c) ≤ length (now d21)) ⌝ }
+    requires { ⌜ (length (now d11) ≡ 6) × (length (now d12) ≡ 6) × (length (now d22) ≡ 6) ⌝ }
+    ensures { λ _. ⌜ passage (now (samples .exit)) (state (now (c .exit)) (filter (now (d11 .exit)) (now (d12 .exit)) (now (d21 .exit)) (now (d22 .exit))))
+        ≡ through (sampleOf alpha volume (now (increments .entry)))
+        (state (now (c .entry)) (filter (now (d11 .entry)) (now (d12 .entry)) (now (d21 .entry)) (now (d22 .entry)))) (now (samples .entry)) ⌝ }
+{
+    if c.len() <= 64 {
+        laid::stretch_in(samples, c, increments, alpha, volume, d11, d12, d21, d22)
+    } else {
+        plain(samples, c, increments, alpha, volume, d11, d12, d21, d22)
     }
 }
 

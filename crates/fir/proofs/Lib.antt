@@ -1,1 +1,1 @@
-mod FirLaws
+pub mod FirLaws

@@ -1,1 +1,3 @@
 mod MlsaLaws
+mod LaidLaws
+mod LayoutLaws

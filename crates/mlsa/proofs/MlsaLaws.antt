@@ -22,10 +22,10 @@ module _ (one : ℕ → Part → Part) (turn : ℕ) (p : Part) where
       let none : 6 - turn ≡ 0 = omega arith in
       rw none refl
 
--- one of six rows of n lies within them
-pub row-within : (k n l : ℕ) → k < 5 → 6 * n ≤ l → k * n + n ≤ l
-row-within k n l h fits =
-    let before : k * n ≤ 5 * n = mul-le-mul-right n (omega arith) in
+-- one of m rows of n lies within them
+pub row-within : (m k n l : ℕ) → k < m → m * n ≤ l → k * n + n ≤ l
+row-within m k n l h fits =
+    let before : suc k * n ≤ m * n = mul-le-mul-right n (omega arith) in
     omega arith
 
 -- both parts, by what each comes to

@@ -1,2 +1,3 @@
 pub mod Mlsa
+pub mod Laid
 pub mod Numbers

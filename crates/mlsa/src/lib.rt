@@ -1,8 +1,14 @@
 // The filter of stage 0, mlsa.rs: two parts of five rows each, weighed by the constants of a Padé approximation.
 ghost use mathlib.Core.Path.{_≡_};
+ghost use mathlib.Core.List.{List};
+ghost use lib.Ieee.{Float};
 ghost use Prim.Native.Nat.{_*_, _≤_, _<_};
 ghost use lib.ListN.{length};
-ghost use Rattle.mlsa.specs.Mlsa.{part, weighed, firstRow, secondRow, passed, df1Of, df2Of, filter, dfOf, freshFilter};
+ghost use Rattle.mlsa.specs.Mlsa.{part, weighed, firstRow, secondRow, passed, ended, df1Of, df2Of, filter, dfOf, freshFilter};
+ghost use Rattle.mlsa.specs.Laid.{flat, answered};
+use lanes::Quad;
+
+pub mod layout;
 
 // The filter's taps: those of the first part with the answers of its rows, six rows of taps of the second part, one after the
 // other, with the answers of its rows. With fewer than 64 coefficients the rows are shorter, and the rest is not used.
@@ -135,4 +141,61 @@ pub fn df(
 {
     let y = df1(d11, d12, x, alpha, c);
     df2(d21, d22, y, alpha, c)
+}
+
+// The answers of rows 4 to 1, weighed in this order, and the sample that the second part passes on.
+fn answer(d22: &mut [f64], y: Quad, s: Sums) -> f64
+    requires { ⌜ length (now d22) ≡ 6 ⌝ }
+    ensures { λ r. ⌜ ((l : List Float) → passed l (now (d22 .exit)) r ≡ ended (answered y (part l (now (d22 .entry)) s))) ⌝ }
+{
+    let s4 = weigh(4, y.d, s);
+    let s3 = weigh(3, y.c, s4);
+    let s2 = weigh(2, y.b, s3);
+    let s1 = weigh(1, y.a, s2);
+    d22[4] = y.d;
+    d22[3] = y.c;
+    d22[2] = y.b;
+    d22[1] = y.a;
+    d22[0] = s1.x;
+    s1.x + s1.out
+}
+
+// The second part, with rows 1 to 4 at once: each reads the answer of the row before it as it was, so that row 5 goes first.
+fn df2_laid(
+    four: &mut [f64],
+    d21: &mut [f64],
+    d22: &mut [f64],
+    x: f64,
+    alpha: f64,
+    c: &[f64],
+) -> f64
+    requires { ⌜ (length (now d22) ≡ 6) × (2 ≤ length (now c)) × (4 * length (now c) ≤ length (now four)) × (6 * length (now c) ≤ length (now d21)) ⌝ }
+    ensures { λ r. ⌜ passed (flat (length (now (c .entry))) (now (four .exit)) (now (d21 .exit))) (now (d22 .exit)) r
+        ≡ df2Of alpha (now (c .entry)) (flat (length (now (c .entry))) (now (four .entry)) (now (d21 .entry))) (now (d22 .entry)) x ⌝ }
+{
+    let first = Sums { x, out: 0.0 };
+    let s = second_row(d21, d22, 5, first, alpha, c);
+    let heads = lanes::at(d22, 0);
+    let y = lanes::fir(four, heads, alpha, c);
+    answer(d22, y, s)
+}
+
+// The sample after both parts, with the first four rows of d21 laid side by side in `four`.
+pub fn df_laid(
+    d11: &mut [f64],
+    d12: &mut [f64],
+    four: &mut [f64],
+    d21: &mut [f64],
+    d22: &mut [f64],
+    x: f64,
+    alpha: f64,
+    c: &[f64],
+) -> f64
+    requires { ⌜ (length (now d11) ≡ 6) × (length (now d12) ≡ 6) × (length (now d22) ≡ 6) ⌝ }
+    requires { ⌜ (2 ≤ length (now c)) × (4 * length (now c) ≤ length (now four)) × (6 * length (now c) ≤ length (now d21)) ⌝ }
+    ensures { λ r. ⌜ record { sample = r; state = filter (now (d11 .exit)) (now (d12 .exit)) (flat (length (now (c .entry))) (now (four .exit)) (now (d21 .exit))) (now (d22 .exit)) }
+        ≡ dfOf alpha (now (c .entry)) (filter (now (d11 .entry)) (now (d12 .entry)) (flat (length (now (c .entry))) (now (four .entry)) (now (d21 .entry))) (now (d22 .entry))) x ⌝ }
+{
+    let y = df1(d11, d12, x, alpha, c);
+    df2_laid(four, d21, d22, y, alpha, c)
 }

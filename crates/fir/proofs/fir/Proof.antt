@@ -1,10 +1,10 @@
 -- `fir` meets its contract: the first two taps, the groups, and the taps one by one. Assumes nothing.
 use borrow.Author.Needs.{needs}
-use mathlib.Core.Path.{_≡_, ap}
+use mathlib.Core.Path.{_≡_, refl, ap}
 use lib.ListN.{length}
 use Rattle.number.specs.F64.{_⊕_}
 use Rattle.fir.specs.Fir.{Taps, firOf}
-use Rattle.fir.proofs.FirLaws.{all-taps}
+use Rattle.fir.proofs.FirLaws.{taps-by}
 use native.Mathlib.Omega.{arith}
 use Rattle.fir.proofs.fir.Statement.{statement}
 use Rattle.fir.proofs.fir.Tie as tie
@@ -36,7 +36,8 @@ returns c =
     let d = c .before .before .before .before .before .before .before .before .before .before .before .before .before .before .before .args .d .now in
     let first : length (c .before .before .before .before .before .before .before .before .before .before .before .start .last .0) ≡ length d = c .before .before .before .before .before .before .before .before .before .before .before .start .kept .0 in
     let grouped : length (c .before .before .before .before .before .before .before .groups .last .0) ≡ length (c .before .before .before .before .before .before .before .before .before .before .before .start .last .0) = c .before .before .before .before .before .before .before .groups .kept .0 in
-    let all = all-taps _ _ _ d _ _ _ first (omega (arith, first, grouped)) (c .before .before .before .before .before .before .before .before .before .before .before .start .ensures) (c .before .before .before .before .before .before .before .groups .ensures) (c .before .before .before .singles .ensures) (c .before .before .before .before .before .before .before .before .before .before .before .before .before .before .before .pre .0) in
+    let whole : length (c .before .before .before .before .before .before .before .groups .last .0) ≡ length d = omega (arith, first, grouped) in
+    let all = taps-by _ _ _ d (length d) _ _ _ refl (c .before .before .before .before .before .before .before .before .before .before .before .before .before .before .before .pre .0) (c .before .before .before .before .before .before .before .before .before .before .before .start .ensures) (rw first at (c .before .before .before .before .before .before .before .groups .ensures)) (rw whole at (c .before .before .before .singles .ensures)) in
     (ap (λ (t : Taps). t .on .y0 ⊕ t .on .y1) all, ap (λ (t : Taps). t .d) all)
 
 pub fir-spec : {M : Type 1} → statement M

@@ -12,13 +12,13 @@ sub-from : tie.Need-sub-from
 sub-from c = search needs
 
 mul-from : tie.Need-mul-from
-mul-from c = omega (arith, row-within (c .before .before .before .args .i - 1) _ _ (omega arith) (c .before .before .before .pre .4))
+mul-from c = omega (arith, row-within 6 (c .before .before .before .args .i - 1) _ _ (omega arith) (c .before .before .before .pre .4))
 
 add-fir : tie.Need-add-fir
-add-fir c = omega (arith, row-within (c .before .before .before .args .i - 1) _ _ (omega arith) (c .before .before .before .pre .4))
+add-fir c = omega (arith, row-within 6 (c .before .before .before .args .i - 1) _ _ (omega arith) (c .before .before .before .pre .4))
 
 mul-fir : tie.Need-mul-fir
-mul-fir c = omega (arith, row-within (c .before .before .before .args .i - 1) _ _ (omega arith) (c .before .before .before .pre .4))
+mul-fir c = omega (arith, row-within 6 (c .before .before .before .args .i - 1) _ _ (omega arith) (c .before .before .before .pre .4))
 
 sub-fir : tie.Need-sub-fir
 sub-fir c = search needs
@@ -27,7 +27,7 @@ part-fir-start : tie.Need-part-fir-start
 part-fir-start c = search needs
 
 part-fir-end : tie.Need-part-fir-end
-part-fir-end c = row-within (c .before .before .before .args .i - 1) _ _ (omega arith) (c .before .before .before .pre .4)
+part-fir-end c = row-within 6 (c .before .before .before .args .i - 1) _ _ (omega arith) (c .before .before .before .pre .4)
 
 sub-fir-2 : tie.Need-sub-fir-2
 sub-fir-2 c = search needs

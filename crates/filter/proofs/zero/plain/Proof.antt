@@ -1,4 +1,4 @@
--- `stretch_in` meets its contract: the samples that are left, from the state here on, come to what all of them come to from the start. Assumes nothing.
+-- `plain` meets its contract: the samples that are left, from the state here on, come to what all of them come to from the start. Assumes nothing.
 use borrow.Author.Needs.{needs}
 use mathlib.Core.Path.{_≡_, refl, sym, _∙_}
 use Prim.Native.Nat.{_-_, _≤_}
@@ -10,8 +10,8 @@ use Rattle.history.proofs.ThroughLaws.{fromHere, through-all, through-turn, thr
 use Rattle.mlsa.specs.Mlsa.{filter}
 use Rattle.filter.specs.Sample.{state}
 use Rattle.filter.specs.Zero.{sampleOf}
-use Rattle.filter.proofs.zero.stretch_in.Statement.{statement}
-use Rattle.filter.proofs.zero.stretch_in.Tie as tie
+use Rattle.filter.proofs.zero.plain.Statement.{statement}
+use Rattle.filter.proofs.zero.plain.Tie as tie
 
 abbrev Inv-loop : tie.InvT-loop
 Inv-loop samples₀ c₀ increments alpha volume d11₀ d12₀ d21₀ d22₀ i₀ samples c d11 d12 d21 d22 i =
@@ -73,8 +73,8 @@ returns c =
     let top = c .before in
     sym (through-end _ (top .loop .i) _ (top .loop .samples) (omega arith)) ∙ top .loop .inv .7
 
-pub stretch-in-spec : {M : Type 1} → statement M
-stretch-in-spec =
+pub plain-spec : {M : Type 1} → statement M
+plain-spec =
     tie.close
     (tie.spec
     Inv-loop

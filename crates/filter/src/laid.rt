@@ -1,0 +1,134 @@
+// Stage 0 with the first four rows of taps laid side by side during a stretch. What it comes to is what `zero` says.
+ghost use mathlib.Core.Path.{_≡_};
+ghost use Prim.Native.Nat.{ℕ, _*_, _≤_, _<_};
+ghost use lib.ListN.{length};
+ghost use Rattle.history.specs.Through.{passage, through};
+ghost use Rattle.mlsa.specs.Mlsa.{filter};
+ghost use Rattle.mlsa.specs.Laid.{flat};
+ghost use Rattle.filter.specs.Sample.{state};
+ghost use Rattle.filter.specs.Zero.{sampleOf};
+use crate::zero::gain;
+use mlsa::layout;
+
+// One sample.
+fn sample(
+    x: f64,
+    c: &mut [f64],
+    increments: &[f64],
+    alpha: f64,
+    volume: f64,
+    d11: &mut [f64],
+    d12: &mut [f64],
+    four: &mut [f64],
+    d21: &mut [f64],
+    d22: &mut [f64],
+) -> f64
+    requires { ⌜ (2 ≤ length (now c)) × (length (now increments) ≡ length (now c)) × (4 * length (now c) ≤ length (now four)) × (6 * length (now c) ≤ length (now d21)) ⌝ }
+    requires { ⌜ (length (now d11) ≡ 6) × (length (now d12) ≡ 6) × (length (now d22) ≡ 6) ⌝ }
+    ensures { λ r. ⌜ ((n : ℕ) → length (now (c .entry)) ≡ n
+        → record { sample = r; state = state (now (c .exit)) (filter (now (d11 .exit)) (now (d12 .exit)) (flat n (now (four .exit)) (now (d21 .exit))) (now (d22 .exit))) }
+        ≡ sampleOf alpha volume (now (increments .entry)) (state (now (c .entry)) (filter (now (d11 .entry)) (now (d12 .entry)) (flat n (now (four .entry)) (now (d21 .entry))) (now (d22 .entry)))) x) ⌝ }
+{
+    let loud = gain(x, c);
+    let y = mlsa::df_laid(d11, d12, four, d21, d22, loud, alpha, c);
+    vectors::add(c, increments);
+    y * volume
+}
+
+// The samples of a stretch.
+fn samples_in(
+    samples: &mut [f64],
+    c: &mut [f64],
+    increments: &[f64],
+    alpha: f64,
+    volume: f64,
+    d11: &mut [f64],
+    d12: &mut [f64],
+    four: &mut [f64],
+    d21: &mut [f64],
+    d22: &mut [f64],
+)
+    requires { ⌜ (2 ≤ length (now c)) × (length (now increments) ≡ length (now c)) × (4 * length (now c) ≤ length (now four)) × (6 * length (now c) ≤ length (now d21)) ⌝ }
+    requires { ⌜ (length (now d11) ≡ 6) × (length (now d12) ≡ 6) × (length (now d22) ≡ 6) ⌝ }
+    ensures { λ _. ⌜ passage (now (samples .exit))
+        (state (now (c .exit)) (filter (now (d11 .exit)) (now (d12 .exit)) (flat (length (now (c .entry))) (now (four .exit)) (now (d21 .exit))) (now (d22 .exit))))
+        ≡ through (sampleOf alpha volume (now (increments .entry)))
+        (state (now (c .entry)) (filter (now (d11 .entry)) (now (d12 .entry)) (flat (length (now (c .entry))) (now (four .entry)) (now (d21 .entry))) (now (d22 .entry)))) (now (samples .entry)) ⌝ }
+{
+    let mut i = 0;
+    while i < samples.len() {
+        let x = samples[i];
+        let y = sample(x, c, increments, alpha, volume, d11, d12, four, d21, d22);
+        samples[i] = y;
+        i += 1;
+    }
+}
+
+// The rows are laid, the samples made, and the rows laid back.
+fn between(
+    samples: &mut [f64],
+    c: &mut [f64],
+    increments: &[f64],
+    alpha: f64,
+    volume: f64,
+    d11: &mut [f64],
+    d12: &mut [f64],
+    four: &mut [f64],
+    d21: &mut [f64],
+    d22: &mut [f64],
+)
+    requires { ⌜ (2 ≤ length (now c)) × (length (now increments) ≡ length (now c)) × (4 * length (now c) ≤ length (now four)) × (6 * length (now c) ≤ length (now d21)) ⌝ }
+    requires { ⌜ (length (now d11) ≡ 6) × (length (now d12) ≡ 6) × (length (now d22) ≡ 6) ⌝ }
+    ensures { λ _. ⌜ passage (now (samples .exit)) (state (now (c .exit)) (filter (now (d11 .exit)) (now (d12 .exit)) (now (d21 .exit)) (now (d22 .exit))))
+        ≡ through (sampleOf alpha volume (now (increments .entry)))
+        (state (now (c .entry)) (filter (now (d11 .entry)) (now (d12 .entry)) (now (d21 .entry)) (now (d22 .entry)))) (now (samples .entry)) ⌝ }
+{
+    let n = c.len();
+    layout::lay(four, d21, n);
+    samples_in(
+        samples,
+        c,
+        increments,
+        alpha,
+        volume,
+        d11,
+        d12,
+        four,
+        d21,
+        d22,
+    );
+    layout::lay_back(d21, four, n);
+}
+
+// The samples of a stretch, with the filter's taps lent one by one.
+pub fn stretch_in(
+    samples: &mut [f64],
+    c: &mut [f64],
+    increments: &[f64],
+    alpha: f64,
+    volume: f64,
+    d11: &mut [f64],
+    d12: &mut [f64],
+    d21: &mut [f64],
+    d22: &mut [f64],
+)
+    requires { ⌜ (2 ≤ length (now c)) × (length (now increments) ≡ length (now c)) × (6 * length (now c) ≤ length (now d21)) × (length (now c) ≤ 64) ⌝ }
+    requires { ⌜ (length (now d11) ≡ 6) × (length (now d12) ≡ 6) × (length (now d22) ≡ 6) ⌝ }
+    ensures { λ _. ⌜ passage (now (samples .exit)) (state (now (c .exit)) (filter (now (d11 .exit)) (now (d12 .exit)) (now (d21 .exit)) (now (d22 .exit))))
+        ≡ through (sampleOf alpha volume (now (increments .entry)))
+        (state (now (c .entry)) (filter (now (d11 .entry)) (now (d12 .entry)) (now (d21 .entry)) (now (d22 .entry)))) (now (samples .entry)) ⌝ }
+{
+    let mut four = [0.0; 256];
+    between(
+        samples,
+        c,
+        increments,
+        alpha,
+        volume,
+        d11,
+        d12,
+        &mut four,
+        d21,
+        d22,
+    );
+}

@@ -1,0 +1,94 @@
+-- Rows laid side by side and back, a turn at a time and in the end. Assumes nothing.
+use mathlib.Core.Path.{_≡_, refl, sym, ap, _∙_}
+use mathlib.Core.List.{List, [], _∷_, _++_}
+use Prim.Native.Nat.{ℕ, _+_, _-_, _*_, _≤_, _<_}
+use native.Mathlib.Omega.{arith}
+use native.Mathlib.Numerals.{add-one}
+use lib.ListN.{length, take, drop, set, length-take, length-drop, take-append-drop}
+use lib.Seq.{take-all, take-suc, take-suc-set, drop-drop, getD-drop}
+use lib.Ieee.{Float, nan}
+use Rattle.number.specs.F64.{_‼_}
+use Rattle.number.specs.Lists.{over, row, putRow}
+use Rattle.number.proofs.Lists.{over-known, over-end, length-row}
+use Rattle.lanes.specs.Lane.{lane}
+use Rattle.lanes.proofs.LaneLaws.{length-lane, lane-at}
+use Rattle.mlsa.specs.Laid.{joined, flat}
+use Rattle.mlsa.proofs.MlsaLaws.{row-within}
+use Rattle.mlsa.proofs.LaidLaws.{Each, put-joined}
+
+-- ---- a list as its first four rows of n, and the rest
+
+abbrev rowsOf : ℕ → List Float → List (List Float)
+rowsOf n d = take n (drop (0 * n) d) ∷ take n (drop (1 * n) d) ∷ take n (drop (2 * n) d) ∷ take n (drop (3 * n) d) ∷ []
+
+cut : (n a b : ℕ) (l : List Float) → a + n ≡ b → take n (drop a l) ++ drop b l ≡ drop a l
+cut n a b l e = rw (← e, ← drop-drop n a l) (take-append-drop n (drop a l))
+
+all-rows : (n : ℕ) (d : List Float) → joined (rowsOf n d) (drop (4 * n) d) ≡ d
+all-rows n d =
+    let none : 0 * n ≡ 0 = omega arith in
+    rw (cut n (3 * n) (4 * n) d (omega arith), cut n (2 * n) (3 * n) d (omega arith), cut n (1 * n) (2 * n) d (omega arith), cut n (0 * n) (1 * n) d (omega arith), none) refl
+
+rows-each : (n : ℕ) (d : List Float) → 4 * n ≤ length d → Each n (rowsOf n d)
+rows-each n d long = (one 0 (omega arith), (one 1 (omega arith), (one 2 (omega arith), (one 3 (omega arith), tt))))
+  where
+    one : (k : ℕ) → k * n + n ≤ length d → length (take n (drop (k * n) d)) ≡ n
+    one k h = simp (length-take, length-drop) (omega arith)
+
+-- ---- laid
+
+-- one more tap of a row that begins at a
+pub lay-turn : (n i a : ℕ) (l after d : List Float) → length l ≡ n → i < n → a + n ≤ length d → take i l ≡ take i (drop a d)
+    → after ≡ set l i (d ‼ (a + i)) → take (i + 1) after ≡ take (i + 1) (drop a d)
+lay-turn n i a l after d len h long e stored =
+    let here : i < length l = omega arith in
+    let there : i < length (drop a d) = simp length-drop (omega arith) in
+    rw (stored, add-one i, take-suc-set l i (d ‼ (a + i)) here, take-suc (drop a d) i nan there, getD-drop a d i nan, e) refl
+
+pub lay-end : (n i : ℕ) (four d : List Float) → i ≡ n → ((k : ℕ) → k < 4 → take i (lane k n four) ≡ take i (drop (k * n) d)) → flat n four d ≡ d
+unfolding flat
+lay-end n i four d e laid =
+    rw (whole 0 (omega arith), whole 1 (omega arith), whole 2 (omega arith), whole 3 (omega arith)) (all-rows n d)
+  where
+    whole : (k : ℕ) → k < 4 → lane k n four ≡ take n (drop (k * n) d)
+    whole k h =
+        let short : length (lane k n four) ≤ n = omega (arith, length-lane k n four) in
+        sym (take-all n (lane k n four) short) ∙ rw e at (laid k h)
+
+-- ---- laid back
+
+module _ (k n i : ℕ) (four out d : List Float) (e : length d ≡ n) (here : out ≡ over (take i (lane k n four)) i d) where
+  pub back-turn : i < n → set out i (four ‼ (4 * i + k)) ≡ over (take (i + 1) (lane k n four)) (i + 1) d
+  back-turn h =
+      let within : i < length (lane k n four) = omega (arith, length-lane k n four) in
+      rw (here, ← lane-at k n i four h) (over-known (lane k n four) d i nan within (omega arith))
+
+  pub back-end : n ≤ i → out ≡ lane k n four
+  back-end h =
+      let short : length (lane k n four) ≤ i = omega (arith, length-lane k n four) in
+      here ∙ over-end (take i (lane k n four)) d i (omega arith) ∙ take-all i (lane k n four) short
+
+pub row-length : (k n : ℕ) (d : List Float) → k < 4 → 4 * n ≤ length d → length (row (k * n) (k * n + n) d) ≡ n
+row-length k n d h long =
+    let wide : k * n + n - k * n ≡ n = omega arith in
+    length-row (k * n) (k * n + n) d (omega arith) (row-within 4 k n (length d) h long) ∙ wide
+
+-- the four rows, one after the other
+pub back-all : (n : ℕ) (four d l1 l2 l3 l4 : List Float) → 4 * n ≤ length d
+    → l1 ≡ putRow (0 * n) (0 * n + n) (lane 0 n four) d → l2 ≡ putRow (1 * n) (1 * n + n) (lane 1 n four) l1
+    → l3 ≡ putRow (2 * n) (2 * n + n) (lane 2 n four) l2 → l4 ≡ putRow (3 * n) (3 * n + n) (lane 3 n four) l3 → l4 ≡ flat n four d
+unfolding flat
+back-all n four d l1 l2 l3 l4 long e0 e1 e2 e3 =
+    let old = rows-each n d long in
+    let rs = rowsOf n d in
+    let after0 = set rs 0 (lane 0 n four) in
+    let after1 = set after0 1 (lane 1 n four) in
+    let after2 = set after1 2 (lane 2 n four) in
+    let one : l1 ≡ joined after0 (drop (4 * n) d) = put rs 0 d l1 old (omega arith) (sym (all-rows n d)) e0 in
+    let two : l2 ≡ joined after1 (drop (4 * n) d) = put after0 1 l1 l2 (length-lane 0 n four, old .1) (omega arith) one e1 in
+    let three : l3 ≡ joined after2 (drop (4 * n) d) = put after1 2 l2 l3 (length-lane 0 n four, (length-lane 1 n four, old .1 .1)) (omega arith) two e2 in
+    put after2 3 l3 l4 (length-lane 0 n four, (length-lane 1 n four, (length-lane 2 n four, old .1 .1 .1))) (omega arith) three e3
+  where
+    put : (rs : List (List Float)) (k : ℕ) (l after : List Float) → Each n rs → k < length rs → l ≡ joined rs (drop (4 * n) d)
+        → after ≡ putRow (k * n) (k * n + n) (lane k n four) l → after ≡ joined (set rs k (lane k n four)) (drop (4 * n) d)
+    put rs k l after each h was e = e ∙ ap (putRow (k * n) (k * n + n) (lane k n four)) was ∙ put-joined n rs (drop (4 * n) d) (lane k n four) k each h

@@ -1,0 +1,34 @@
+-- The first four rows of the taps of the second part laid side by side in lanes. Assumes nothing.
+use mathlib.Core.Path.{_≡_, refl}
+use mathlib.Core.List.{List, [], _∷_, _++_}
+use Prim.Native.Nat.{ℕ, _*_}
+use lib.ListN.{drop, set, replicate}
+use lib.Ieee.{Float}
+use Rattle.number.specs.F64.{0f, ½f, 1f, 2f}
+use Rattle.lanes.specs.declared.Quad.{Quad}
+use Rattle.lanes.specs.Lane.{lane}
+use Rattle.mlsa.specs.Mlsa.{Part, part, weighed}
+
+-- rows one after the other, and then the rest
+abbrev pub joined : List (List Float) → List Float → List Float
+joined [] rest = rest
+joined (r ∷ rs) rest = r ++ joined rs rest
+
+-- the four lanes of n taps as rows
+abbrev pub lanesOf : ℕ → List Float → List (List Float)
+lanesOf n four = lane 0 n four ∷ lane 1 n four ∷ lane 2 n four ∷ lane 3 n four ∷ []
+
+-- the taps d21 with their first four rows as the lanes have them
+unfoldable pub flat : ℕ → List Float → List Float → List Float
+flat n four d21 = joined (lanesOf n four) (drop (4 * n) d21)
+
+-- rows 0, ½ and 1, 2 and so on of two taps each, and one more tap
+pub laid-example : flat 2 (0f ∷ 1f ∷ 2f ∷ 1f ∷ ½f ∷ 2f ∷ 0f ∷ ½f ∷ []) (replicate 8 0f ++ (2f ∷ [])) ≡ 0f ∷ ½f ∷ 1f ∷ 2f ∷ 2f ∷ 0f ∷ 1f ∷ ½f ∷ 2f ∷ []
+unfolding flat lane
+laid-example = refl
+
+-- a part with the answers of rows 4 to 1, one for each lane, weighed
+abbrev pub answered : Quad → Part → Part
+answered y p =
+    part (p .d1) (set (set (set (set (p .d2) 4 (y .d)) 3 (y .c)) 2 (y .b)) 1 (y .a))
+    (weighed 1 (y .a) (weighed 2 (y .b) (weighed 3 (y .c) (weighed 4 (y .d) (p .sums)))))
