@@ -1,1 +1,2 @@
-mod MglsaLaws
+pub mod MglsaLaws
+mod PairLaws

@@ -1,2 +1,3 @@
 pub mod Mglsa
 pub mod Numbers
+pub mod Pair

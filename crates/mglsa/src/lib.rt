@@ -1,8 +1,11 @@
 // The filter of the stages from 1 on, mglsa.rs: a row of taps for each stage.
+mod pair;
+
 ghost use mathlib.Core.Path.{_≡_};
 ghost use Prim.Native.Nat.{_+_, _*_, _≤_, _<_};
 ghost use lib.ListN.{length};
 ghost use Rattle.mglsa.specs.Mglsa.{passed, warpAt, warped, pushed, dffOf, stageOf, turned, dfOf, freshRows};
+use crate::pair::two_stages;
 
 // The filter's taps, at most eight rows, one after the other. With fewer than 64 coefficients the rows are shorter, and the rest is
 // not used.
@@ -80,16 +83,19 @@ fn stage(d: &mut [f64], i: usize, x: f64, alpha: f64, c: &[f64]) -> f64
     dff(&mut d[from..from + n], x, alpha, c)
 }
 
-// The sample after all stages, whose rows are lent.
+// The sample after all stages, whose rows are lent: two at a time, and the last one of an odd number.
 pub fn df(d: &mut [f64], stages: usize, x: f64, alpha: f64, c: &[f64]) -> f64
     requires { ⌜ (2 ≤ length (now c)) × (stages * length (now c) ≤ length (now d)) ⌝ }
     ensures { λ r. ⌜ turned (passed (now (d .exit)) r) ≡ dfOf alpha stages (now (c .entry)) (now (d .entry)) x ⌝ }
 {
     let mut out = x;
     let mut i = 0;
-    while i < stages {
-        out = stage(d, i, out, alpha, c);
-        i += 1;
+    while 2 <= stages - i {
+        out = two_stages(d, i, out, alpha, c);
+        i += 2;
+    }
+    if i < stages {
+        return stage(d, i, out, alpha, c);
     }
     out
 }

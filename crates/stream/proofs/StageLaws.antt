@@ -1,32 +1,18 @@
 -- A sample through the filter of the stages from 1 on changes no more than a row for each. Assumes nothing.
-use mathlib.Core.Path.{_≡_, refl, ap, _∙_}
-use mathlib.Core.List.{List, [], _∷_}
+use mathlib.Core.Path.{_≡_, _∙_}
+use mathlib.Core.List.{List}
 use Prim.Native.Nat.{ℕ, zero, suc, _+_, _-_, _*_, _≤_}
 use native.Mathlib.Nat.{mul-le-mul, le-refl}
 use native.Mathlib.Omega.{arith}
-use lib.ListN.{length, length-set}
+use lib.ListN.{length}
 use lib.Ieee.{Float}
-use Rattle.number.specs.F64.{_⊗_, _‼_}
 use Rattle.number.specs.Lists.{row}
 use Rattle.number.proofs.Lists.{length-row}
-use Rattle.mglsa.specs.Mglsa.{Passed, passed, warpAt, warps, warped, pushed, dffOf, stageOf, stagesFrom, dfOf}
+use Rattle.mglsa.specs.Mglsa.{Passed, passed, dffOf, stageOf, stagesFrom, dfOf}
+use Rattle.mglsa.proofs.MglsaLaws.{length-stage}
 use Rattle.stream.proofs.PastLaws.{Past, past-same, past-then, past-put}
 
-length-pushed : (first : Float) (d : List Float) → length (pushed first d) ≡ length d
-unfolding pushed
-length-pushed first [] = refl
-length-pushed first (x ∷ d) = ap suc (length-pushed x d)
-
 module _ (alpha : Float) (c : List Float) where
-  length-warps : (n i : ℕ) (w : Passed) → length (warps alpha c n i w .d) ≡ length (w .d)
-  unfolding warps warpAt
-  length-warps zero i w = refl
-  length-warps (suc n) i w = length-warps n (i + 1) (warpAt alpha c i w) ∙ length-set (w .d) i _
-
-  length-stage : (s : Passed) → length (dffOf alpha c s .d) ≡ length (s .d)
-  unfolding dffOf warped
-  length-stage s = length-pushed _ (warped alpha c (s .d) .d) ∙ length-warps (length (s .d) - 2) 1 (passed (s .d) (s .d ‼ 0 ⊗ c ‼ 1))
-
   module _ (stages : ℕ) where
     -- stage i turns row i
     one-stage : (i : ℕ) (s : Passed) → i + 1 ≤ stages → stages * length c ≤ length (s .d) → Past (stages * length c) (s .d) (stageOf alpha c i s .d)
@@ -37,7 +23,7 @@ module _ (alpha : Float) (c : List Float) where
         let to = from + n in
         let most : (i + 1) * n ≤ stages * n = mul-le-mul h (le-refl n) in
         let p = passed (row from to (s .d)) (s .x) in
-        let size : length (dffOf alpha c p .d) ≡ to - from = length-stage p ∙ length-row from to (s .d) (omega arith) (omega (arith, most, l)) in
+        let size : length (dffOf alpha c p .d) ≡ to - from = length-stage alpha c p ∙ length-row from to (s .d) (omega arith) (omega (arith, most, l)) in
         past-put (stages * n) (s .d) from to (dffOf alpha c p .d) (omega arith) (omega (arith, most)) l size
 
     from-stage : (n i : ℕ) (s : Passed) → i + n ≤ stages → stages * length c ≤ length (s .d) → Past (stages * length c) (s .d) (stagesFrom alpha c n i s .d)
