@@ -65,7 +65,7 @@ fn samples_in(
 }
 
 // The rows are laid, the samples made, and the rows laid back.
-fn between(
+pub(crate) fn between(
     samples: &mut [f64],
     c: &mut [f64],
     increments: &[f64],
@@ -98,37 +98,4 @@ fn between(
         d22,
     );
     layout::lay_back(d21, four, n);
-}
-
-// The samples of a stretch, with the filter's taps lent one by one.
-pub fn stretch_in(
-    samples: &mut [f64],
-    c: &mut [f64],
-    increments: &[f64],
-    alpha: f64,
-    volume: f64,
-    d11: &mut [f64],
-    d12: &mut [f64],
-    d21: &mut [f64],
-    d22: &mut [f64],
-)
-    requires { ⌜ (2 ≤ length (now c)) × (length (now increments) ≡ length (now c)) × (6 * length (now c) ≤ length (now d21)) × (length (now c) ≤ 64) ⌝ }
-    requires { ⌜ (length (now d11) ≡ 6) × (length (now d12) ≡ 6) × (length (now d22) ≡ 6) ⌝ }
-    ensures { λ _. ⌜ passage (now (samples .exit)) (state (now (c .exit)) (filter (now (d11 .exit)) (now (d12 .exit)) (now (d21 .exit)) (now (d22 .exit))))
-        ≡ through (sampleOf alpha volume (now (increments .entry)))
-        (state (now (c .entry)) (filter (now (d11 .entry)) (now (d12 .entry)) (now (d21 .entry)) (now (d22 .entry)))) (now (samples .entry)) ⌝ }
-{
-    let mut four = [0.0; 256];
-    between(
-        samples,
-        c,
-        increments,
-        alpha,
-        volume,
-        d11,
-        d12,
-        &mut four,
-        d21,
-        d22,
-    );
 }

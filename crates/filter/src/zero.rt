@@ -6,7 +6,7 @@ ghost use Rattle.history.specs.Through.{passage, through};
 ghost use Rattle.mlsa.specs.Mlsa.{filter};
 ghost use Rattle.filter.specs.Sample.{state};
 ghost use Rattle.filter.specs.Zero.{gained, sampleOf};
-use crate::laid;
+use crate::laid::between;
 use mlsa::MelLogSpectrumApproximation;
 
 // The sample times exp(c[0]), where it is not 0.
@@ -21,57 +21,7 @@ pub fn gain(x: f64, c: &[f64]) -> f64
     }
 }
 
-// One sample.
-fn sample(
-    x: f64,
-    c: &mut [f64],
-    increments: &[f64],
-    alpha: f64,
-    volume: f64,
-    d11: &mut [f64],
-    d12: &mut [f64],
-    d21: &mut [f64],
-    d22: &mut [f64],
-) -> f64
-    requires { ⌜ (2 ≤ length (now c)) × (length (now increments) ≡ length (now c)) × (6 * length (now c) ≤ length (now d21)) ⌝ }
-    requires { ⌜ (length (now d11) ≡ 6) × (length (now d12) ≡ 6) × (length (now d22) ≡ 6) ⌝ }
-    ensures { λ r. ⌜ record { sample = r; state = state (now (c .exit)) (filter (now (d11 .exit)) (now (d12 .exit)) (now (d21 .exit)) (now (d22 .exit))) }
-        ≡ sampleOf alpha volume (now (increments .entry)) (state (now (c .entry)) (filter (now (d11 .entry)) (now (d12 .entry)) (now (d21 .entry)) (now (d22 .entry)))) x ⌝ }
-{
-    let loud = gain(x, c);
-    let y = mlsa::df(d11, d12, d21, d22, loud, alpha, c);
-    vectors::add(c, increments);
-    y * volume
-}
-
-// The samples of a stretch, one row of taps after the other.
-fn plain(
-    samples: &mut [f64],
-    c: &mut [f64],
-    increments: &[f64],
-    alpha: f64,
-    volume: f64,
-    d11: &mut [f64],
-    d12: &mut [f64],
-    d21: &mut [f64],
-    d22: &mut [f64],
-)
-    requires { ⌜ (2 ≤ length (now c)) × (length (now increments) ≡ length (now c)) × (6 * length (now c) ≤ length (now d21)) ⌝ }
-    requires { ⌜ (length (now d11) ≡ 6) × (length (now d12) ≡ 6) × (length (now d22) ≡ 6) ⌝ }
-    ensures { λ _. ⌜ passage (now (samples .exit)) (state (now (c .exit)) (filter (now (d11 .exit)) (now (d12 .exit)) (now (d21 .exit)) (now (d22 .exit))))
-        ≡ through (sampleOf alpha volume (now (increments .entry)))
-        (state (now (c .entry)) (filter (now (d11 .entry)) (now (d12 .entry)) (now (d21 .entry)) (now (d22 .entry)))) (now (samples .entry)) ⌝ }
-{
-    let mut i = 0;
-    while i < samples.len() {
-        let x = samples[i];
-        let y = sample(x, c, increments, alpha, volume, d11, d12, d21, d22);
-        samples[i] = y;
-        i += 1;
-    }
-}
-
-// The samples of a stretch, with the filter's taps lent one by one: side by side where there is room for them.
+// The samples of a stretch, with the filter's taps lent one by one.
 pub fn stretch_in(
     samples: &mut [f64],
     c: &mut [f64],
@@ -83,17 +33,25 @@ pub fn stretch_in(
     d21: &mut [f64],
     d22: &mut [f64],
 )
-    requires { ⌜ (2 ≤ length (now c)) × (length (now increments) ≡ length (now c)) × (6 * length (now c) ≤ length (now d21)) ⌝ }
+    requires { ⌜ (2 ≤ length (now c)) × (length (now increments) ≡ length (now c)) × (6 * length (now c) ≤ length (now d21)) × (length (now c) ≤ 64) ⌝ }
     requires { ⌜ (length (now d11) ≡ 6) × (length (now d12) ≡ 6) × (length (now d22) ≡ 6) ⌝ }
     ensures { λ _. ⌜ passage (now (samples .exit)) (state (now (c .exit)) (filter (now (d11 .exit)) (now (d12 .exit)) (now (d21 .exit)) (now (d22 .exit))))
         ≡ through (sampleOf alpha volume (now (increments .entry)))
         (state (now (c .entry)) (filter (now (d11 .entry)) (now (d12 .entry)) (now (d21 .entry)) (now (d22 .entry)))) (now (samples .entry)) ⌝ }
 {
-    if c.len() <= 64 {
-        laid::stretch_in(samples, c, increments, alpha, volume, d11, d12, d21, d22)
-    } else {
-        plain(samples, c, increments, alpha, volume, d11, d12, d21, d22)
-    }
+    let mut four = [0.0; 256];
+    between(
+        samples,
+        c,
+        increments,
+        alpha,
+        volume,
+        d11,
+        d12,
+        &mut four,
+        d21,
+        d22,
+    );
 }
 
 // The samples of a stretch, and the filter after it.

@@ -108,41 +108,6 @@ fn second_row(d21: &mut [f64], d22: &mut [f64], i: usize, s: Sums, alpha: f64, c
     weigh(i, y, s)
 }
 
-// The second part, its rows from 5 down to 1.
-fn df2(d21: &mut [f64], d22: &mut [f64], x: f64, alpha: f64, c: &[f64]) -> f64
-    requires { ⌜ (length (now d22) ≡ 6) × (2 ≤ length (now c)) × (6 * length (now c) ≤ length (now d21)) ⌝ }
-    ensures { λ r. ⌜ passed (now (d21 .exit)) (now (d22 .exit)) r ≡ df2Of alpha (now (c .entry)) (now (d21 .entry)) (now (d22 .entry)) x ⌝ }
-{
-    let mut s = Sums { x, out: 0.0 };
-    let mut turn = 1;
-    while turn < 6 {
-        let i = 6 - turn;
-        s = second_row(d21, d22, i, s, alpha, c);
-        turn += 1;
-    }
-    d22[0] = s.x;
-    s.x + s.out
-}
-
-// The sample after both parts, whose taps are lent one by one.
-pub fn df(
-    d11: &mut [f64],
-    d12: &mut [f64],
-    d21: &mut [f64],
-    d22: &mut [f64],
-    x: f64,
-    alpha: f64,
-    c: &[f64],
-) -> f64
-    requires { ⌜ (length (now d11) ≡ 6) × (length (now d12) ≡ 6) × (length (now d22) ≡ 6) ⌝ }
-    requires { ⌜ (2 ≤ length (now c)) × (6 * length (now c) ≤ length (now d21)) ⌝ }
-    ensures { λ r. ⌜ record { sample = r; state = filter (now (d11 .exit)) (now (d12 .exit)) (now (d21 .exit)) (now (d22 .exit)) }
-        ≡ dfOf alpha (now (c .entry)) (filter (now (d11 .entry)) (now (d12 .entry)) (now (d21 .entry)) (now (d22 .entry))) x ⌝ }
-{
-    let y = df1(d11, d12, x, alpha, c);
-    df2(d21, d22, y, alpha, c)
-}
-
 // The answers of rows 4 to 1, weighed in this order, and the sample that the second part passes on.
 fn answer(d22: &mut [f64], y: Quad, s: Sums) -> f64
     requires { ⌜ length (now d22) ≡ 6 ⌝ }

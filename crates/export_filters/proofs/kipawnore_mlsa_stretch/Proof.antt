@@ -18,7 +18,7 @@ returns c =
 stretch-in-requires : tie.Need-stretch-in-requires
 stretch-in-requires c κs =
     let fit = zero-in _ _ _ _ _ _ (sym (c .before .before .before .before .before .before .before .zero-fits .ensures) ∙ not-false _ (c .before .before .before .before .before .before .if1 .left)) in
-    ((fit .0 .0, fit .0 .1, omega (arith, fit .0 .2)), fit .1)
+    ((fit .0 .0, fit .0 .1, omega (arith, fit .0 .2), fit .0 .3), fit .1)
 
 same-length : tie.Need-same-length
 same-length c = search needs

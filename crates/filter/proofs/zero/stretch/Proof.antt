@@ -21,7 +21,7 @@ slice-aggregate-stretch-in-4 c = search needs
 stretch-in-requires : tie.Need-stretch-in-requires
 stretch-in-requires c κs =
     let rows : length (c .before .before .before .before .before .before .before .before .before .before .before .before .before .args .f .d21) ≡ 384 = search needs in
-    ((omega arith, omega arith, omega arith), search needs)
+    ((omega arith, omega arith, omega arith, omega arith), search needs)
 
 same-length : tie.Need-same-length
 same-length c = search needs
