@@ -25,46 +25,46 @@ loop-holds : tie.Need-loop-holds Inv-loop μ-loop
 loop-holds c = (omega arith, refl, refl, refl, refl, refl, refl)
 
 mul-next : tie.Need-mul-next Inv-loop μ-loop
-mul-next c = record { fits = omega arith }
+mul-next c = search needs
 
 shared-slice-read-next : tie.Need-shared-slice-read-next Inv-loop μ-loop
-shared-slice-read-next c = omega arith
+shared-slice-read-next c = search needs
 
 mul-next-2 : tie.Need-mul-next-2 Inv-loop μ-loop
-mul-next-2 c = record { fits = omega arith }
+mul-next-2 c = search needs
 
 slice-read-next : tie.Need-slice-read-next Inv-loop μ-loop
-slice-read-next c = omega arith
+slice-read-next c = search needs
 
 mul-next-3 : tie.Need-mul-next-3 Inv-loop μ-loop
-mul-next-3 c = record { fits = omega arith }
+mul-next-3 c = search needs
 
 slice-read-next-2 : tie.Need-slice-read-next-2 Inv-loop μ-loop
-slice-read-next-2 c = omega arith
+slice-read-next-2 c = search needs
 
 mul-a2 : tie.Need-mul-a2 Inv-loop μ-loop
-mul-a2 c = record { fits = omega arith }
+mul-a2 c = search needs
 
 slice-read-a2 : tie.Need-slice-read-a2 Inv-loop μ-loop
-slice-read-a2 c = omega arith
+slice-read-a2 c = search needs
 
 mul-a2-2 : tie.Need-mul-a2-2 Inv-loop μ-loop
-mul-a2-2 c = record { fits = omega arith }
+mul-a2-2 c = search needs
 
 slice-write-a2 : tie.Need-slice-write-a2 Inv-loop μ-loop
-slice-write-a2 c = omega arith
+slice-write-a2 c = search needs
 
 mul-a1 : tie.Need-mul-a1 Inv-loop μ-loop
-mul-a1 c = record { fits = omega arith }
+mul-a1 c = search needs
 
 slice-write-a1 : tie.Need-slice-write-a1 Inv-loop μ-loop
-slice-write-a1 c = omega arith
+slice-write-a1 c = search needs
 
 add-i : tie.Need-add-i Inv-loop μ-loop
-add-i c = record { fits = omega arith }
+add-i c = search needs
 
 loop-less : tie.Need-loop-less Inv-loop μ-loop
-loop-less c = omega arith
+loop-less c = search needs
 
 loop-again : tie.Need-loop-again Inv-loop μ-loop
 loop-again c =
