@@ -3,7 +3,7 @@ ghost use mathlib.Core.Path.{_≡_};
 ghost use Prim.Native.Nat.{_+_, _-_, _*_, _≤_, _<_};
 ghost use lib.ListN.{length, take, drop};
 ghost use Rattle.number.specs.F64.{_⊗_, _‼_};
-ghost use Rattle.mglsa.specs.Mglsa.{passed, warpAt, warped, stageOf};
+ghost use Rattle.mglsa.specs.Mglsa.{passed, warped, stageOf};
 ghost use Rattle.mglsa.specs.Pair.{Warped, bothOf};
 use crate::push;
 

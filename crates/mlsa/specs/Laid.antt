@@ -3,10 +3,11 @@ use mathlib.Core.Path.{_≡_, refl}
 use mathlib.Core.List.{List, [], _∷_, _++_}
 use Prim.Native.Nat.{ℕ, _*_}
 use lib.ListN.{drop, set, replicate}
-use lib.Ieee.{Float}
+use lib.Ieee.{Float, ofBits, add, mul, neg}
 use Rattle.number.specs.F64.{0f, ½f, 1f, 2f}
 use Rattle.lanes.specs.declared.Quad.{Quad}
 use Rattle.lanes.specs.Lane.{lane}
+use Rattle.mlsa.specs.declared.Sums.{Sums}
 use Rattle.mlsa.specs.Mlsa.{Part, part, weighed}
 
 -- rows one after the other, and then the rest
@@ -32,3 +33,17 @@ abbrev pub answered : Quad → Part → Part
 answered y p =
     part (p .d1) (set (set (set (set (p .d2) 4 (y .d)) 3 (y .c)) 2 (y .b)) 1 (y .a))
     (weighed 1 (y .a) (weighed 2 (y .b) (weighed 3 (y .c) (weighed 4 (y .d) (p .sums)))))
+
+-- zeros but for row 1, whose constant is just below ½: twice that is added to the sample and to the sum
+abbrev none : Sums
+none = record { x = 0f; out = 0f }
+
+abbrev twice : Quad
+twice = record { a = 2f; b = 0f; c = 0f; d = 0f }
+
+pub answers-stand : answered twice (part [] (replicate 6 1f) none) .d2 ≡ 1f ∷ 2f ∷ 0f ∷ 0f ∷ 0f ∷ 1f ∷ []
+answers-stand = refl
+
+pub answers-weighed : answered twice (part [] (replicate 6 1f) none) .sums ≡ weighed 1 2f none
+unfolding weighed ofBits add mul neg
+answers-weighed = refl

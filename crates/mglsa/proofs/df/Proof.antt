@@ -1,5 +1,4 @@
 -- `df` meets its contract: the stages that are left make of the taps here what all of them make of them at the start. Assumes nothing.
-use borrow.Author.Needs.{needs}
 use mathlib.Core.Path.{_≡_, refl, sym, ap, _∙_}
 use Prim.Native.Nat.{_+_, _-_, _≤_}
 use native.Mathlib.Omega.{arith}

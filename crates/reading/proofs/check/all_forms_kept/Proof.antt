@@ -1,7 +1,6 @@
 -- `all_forms_kept` meets its contract: four parts. Assumes nothing.
 use native.Mathlib.Omega.{arith}
 use mathlib.Core.Path.{_≡_, refl, _∙_, ap}
-use Prim.Native.Nat.{_+_}
 use lib.ListN.{drop}
 use Rattle.refusing.specs.Refusal.{every}
 use Rattle.slots.specs.Sound.{oneForm}
