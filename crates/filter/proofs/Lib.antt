@@ -1,2 +1,3 @@
+pub mod Halves
 mod FilterLaws
 pub mod Cut
