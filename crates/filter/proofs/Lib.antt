@@ -1,3 +1,2 @@
-pub mod Halves
 mod FilterLaws
 pub mod Cut

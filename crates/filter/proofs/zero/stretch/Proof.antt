@@ -1,8 +1,8 @@
 -- `stretch` meets its contract: the half before the middle, and then the other. Assumes nothing.
 use borrow.Author.Needs.{needs}
 use native.Mathlib.Omega.{arith}
+use Rattle.history.proofs.ThroughLaws.{through-parts}
 use Rattle.filter.specs.Zero.{sampleOf}
-use Rattle.filter.proofs.Halves.{through-parts}
 use Rattle.filter.proofs.zero.stretch.Statement.{statement}
 use Rattle.filter.proofs.zero.stretch.Tie as tie
 
