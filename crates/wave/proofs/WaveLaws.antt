@@ -1,21 +1,46 @@
--- How a sweep goes on by one entry, and how it begins. Assumes nothing.
+-- How a sweep goes on by one entry and by two, how it ends, and how it begins. Assumes nothing.
 use mathlib.Core.Path.{_≡_, refl, _∙_}
 use mathlib.Core.List.{List, [], _∷_, _++_}
-use Prim.Native.Nat.{_≤_}
+use Prim.Native.Nat.{ℕ, _+_, _<_, _≤_}
 use native.Mathlib.Omega.{arith}
-use lib.ListN.{length, take, drop, set}
-use lib.Ieee.{Float}
+use lib.ListN.{length, take, drop, set, length-set}
+use lib.Seq.{getD-set-other}
+use lib.Ieee.{Float, nan}
 use Rattle.number.specs.F64.{_‼_}
+use Rattle.number.proofs.Lists.{front-turn, front-end, left-none}
 use Rattle.wave.specs.Wave.{lastOr, outputs, swept, firstAfter, secondsOf, waveOf}
 
+-- what is done below j, with what the wave makes of the rest
+abbrev pub sweptFrom : Float → (old : Float) (news : List Float) (j : ℕ) → List Float → List Float
+sweptFrom a old news j g = take j g ++ swept a old news (drop j g)
+
 -- the entry v becomes what the last pass makes of it, and the wave goes on
-pub swept-turn : (a old v x : Float) (news next gs : List Float) → x ≡ v → next ≡ outputs a old v news → swept a old news (v ∷ gs) ≡ lastOr v next ∷ swept a x next gs
+swept-turn : (a old v x : Float) (news next gs : List Float) → x ≡ v → next ≡ outputs a old v news → swept a old news (v ∷ gs) ≡ lastOr v next ∷ swept a x next gs
 unfolding swept
 swept-turn a old v x news next gs ex en = rw (ex, en) refl
 
-pub swept-end : (a old : Float) (news : List Float) → swept a old news [] ≡ []
+-- the store of one entry is a turn
+pub one-stored : (a old x y : Float) (news next g : List Float) (j : ℕ) → j < length g → x ≡ g ‼ j → y ≡ lastOr (g ‼ j) next → next ≡ outputs a old (g ‼ j) news
+    → sweptFrom a x next (j + 1) (set g j y) ≡ sweptFrom a old news j g
+one-stored a old x y news next g j h ex ey en =
+    front-turn (swept a old news) (swept a x next) g j y nan h (swept-turn a old (g ‼ j) x news next (drop (j + 1) g) ex en ∙ rw ey refl)
+
+-- and so is that of two
+pub two-stored : (a old x y z : Float) (news next g : List Float) (j : ℕ) → j + 1 < length g
+    → let made = outputs a old (g ‼ j) news in
+    y ≡ lastOr (g ‼ j) made → x ≡ g ‼ (j + 1) → z ≡ lastOr (g ‼ (j + 1)) next → next ≡ outputs a (g ‼ j) (g ‼ (j + 1)) made
+    → sweptFrom a x next (j + 2) (set (set g j y) (j + 1) z) ≡ sweptFrom a old news j g
+two-stored a old x y z news next g j h ey ex ez en =
+    let made = outputs a old (g ‼ j) news in
+    let here : set g j y ‼ (j + 1) ≡ g ‼ (j + 1) = getD-set-other g j (j + 1) y nan (λ e. omega arith) in
+    let n : j + 1 + 1 ≡ j + 2 = omega arith in
+    rw n at (one-stored a (g ‼ j) x z made next (set g j y) (j + 1) (simp length-set (omega arith)) (rw here ex) (rw here ez) (rw here en))
+    ∙ one-stored a old (g ‼ j) y news made g j (omega arith) refl ey refl
+
+-- at the end all is done
+pub swept-end : (a old : Float) (news g : List Float) (j : ℕ) → length g ≤ j → sweptFrom a old news j g ≡ g
 unfolding swept
-swept-end a old news = refl
+swept-end a old news g j h = front-end g _ j h (rw (left-none g j h) refl)
 
 -- two stores in front leave the rest
 pub two-stores : (g : List Float) (x y : Float) (f : List Float → List Float) → 2 ≤ length g → take 2 (set (set g 0 x) 1 y) ++ f (drop 2 (set (set g 0 x) 1 y)) ≡ x ∷ y ∷ f (drop 2 g)

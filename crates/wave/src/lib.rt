@@ -3,7 +3,7 @@ ghost use mathlib.Core.Path.{_≡_};
 ghost use mathlib.Core.List.{_++_};
 ghost use Prim.Native.Nat.{_≤_};
 ghost use lib.ListN.{length, take, drop};
-ghost use Rattle.wave.specs.Wave.{outputs, swept, firstAfter, secondsOf, waveOf, madeBy};
+ghost use Rattle.wave.specs.Wave.{lastOr, outputs, swept, firstAfter, secondsOf, waveOf, madeBy};
 
 // What is carried from entry to entry: what came into the first pass there, and what each pass made there.
 pub struct Wave {
@@ -22,6 +22,12 @@ pub struct Wave {
 pub struct Started {
     pub first: f64,
     pub wave: Wave,
+}
+
+// What the eighth pass made at the first of two entries, and the wave at the second.
+struct Two {
+    eighth: f64,
+    wave: Wave,
 }
 
 // The wave at the entry v.
@@ -49,16 +55,57 @@ fn step(w: Wave, alpha: f64, v: f64) -> Wave
     }
 }
 
-// The wave from the third entry on.
+// The waves at the entries v and u, one after the other. The passes make a1 to a8 at v and b1 to b8 at u: a pass at u needs the same
+// one at v and the one before it at u, so that the two chains run side by side.
+fn two_steps(w: Wave, alpha: f64, v: f64, u: f64) -> Two
+    ensures { λ r. ⌜ (r .wave .input ≡ u) × (r .eighth ≡ lastOr v (outputs alpha (w .input) v (madeBy w))) × (madeBy (r .wave) ≡ outputs alpha v u (outputs alpha (w .input) v (madeBy w))) ⌝ }
+{
+    let a1 = w.input + alpha * (v - w.first);
+    let a2 = w.first + alpha * (a1 - w.second);
+    let b1 = v + alpha * (u - a1);
+    let a3 = w.second + alpha * (a2 - w.third);
+    let b2 = a1 + alpha * (b1 - a2);
+    let a4 = w.third + alpha * (a3 - w.fourth);
+    let b3 = a2 + alpha * (b2 - a3);
+    let a5 = w.fourth + alpha * (a4 - w.fifth);
+    let b4 = a3 + alpha * (b3 - a4);
+    let a6 = w.fifth + alpha * (a5 - w.sixth);
+    let b5 = a4 + alpha * (b4 - a5);
+    let a7 = w.sixth + alpha * (a6 - w.seventh);
+    let b6 = a5 + alpha * (b5 - a6);
+    let a8 = w.seventh + alpha * (a7 - w.eighth);
+    let b7 = a6 + alpha * (b6 - a7);
+    let b8 = a7 + alpha * (b7 - a8);
+    let wave = Wave {
+        input: u,
+        first: b1,
+        second: b2,
+        third: b3,
+        fourth: b4,
+        fifth: b5,
+        sixth: b6,
+        seventh: b7,
+        eighth: b8,
+    };
+    Two { eighth: a8, wave }
+}
+
+// The wave from the third entry on, two entries a turn, and then the last where one is left.
 fn sweep_in(g: &mut [f64], alpha: f64, mut w: Wave)
     requires { ⌜ 2 ≤ length (now g) ⌝ }
     ensures { λ _. ⌜ now (g .exit) ≡ take 2 (now (g .entry)) ++ swept alpha (w .input) (madeBy w) (drop 2 (now (g .entry))) ⌝ }
 {
     let mut j = 2;
-    while j < g.len() {
-        w = step(w, alpha, g[j]);
-        g[j] = w.eighth;
-        j += 1;
+    while g.len() - j >= 2 {
+        let two = two_steps(w, alpha, g[j], g[j + 1]);
+        w = two.wave;
+        g[j] = two.eighth;
+        g[j + 1] = w.eighth;
+        j += 2;
+    }
+    if j < g.len() {
+        let last = step(w, alpha, g[j]);
+        g[j] = last.eighth;
     }
 }
 
