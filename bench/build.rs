@@ -11,6 +11,11 @@ const ARCHIVES: [&str; 6] = [
 fn main() {
     search("EXPORTS_DIR", &ARCHIVES);
     search("SHIM_DIR", &["shim"]);
+    let native = std::env::var("NATIVE_DIR").expect("NATIVE_DIR names a folder");
+    println!("cargo:rerun-if-env-changed=NATIVE_DIR");
+    println!("cargo:rerun-if-changed={native}/libnative_rust.so");
+    println!("cargo:rustc-link-search=native={native}");
+    println!("cargo:rustc-link-arg=-Wl,-rpath,{native}");
 }
 
 /// Has the linker search the folder that `variable` names, where `names` are.

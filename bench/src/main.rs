@@ -2,6 +2,7 @@
 
 mod breakdown;
 mod cases;
+mod chart;
 // The pinned file has constants of other parts too.
 #[allow(dead_code)]
 mod constants;
@@ -15,6 +16,7 @@ mod frames;
 mod generator;
 mod inputs;
 mod measure;
+mod native;
 mod our_filter;
 mod parts;
 mod preparations;
@@ -29,6 +31,7 @@ mod vocoder;
 mod whole_frames;
 
 use cases::Case;
+use chart::Measured;
 use generator::Generator;
 use inputs::COUNT;
 use measure::{ROUNDS, STRETCH, measure};
@@ -64,9 +67,15 @@ fn main() -> ExitCode {
     }
     let random = &mut Generator::new(SEED);
     let tables = tables(random);
-    let done = tables.iter().all(print_table)
-        && breakdown::print(&tables[3].cases)
-        && rests::print(random);
+    let Some(measured) = tables.iter().map(print_table).collect::<Option<Vec<_>>>() else {
+        return ExitCode::from(1);
+    };
+    let done = breakdown::print(&tables[3].cases) && rests::print(random);
+    let Some(chart) = std::env::args().nth(1) else {
+        eprintln!("usage: bench CHART (the file that the chart of whole frames is written to)");
+        return ExitCode::from(2);
+    };
+    std::fs::write(chart, chart::svg(&measured[3])).expect("the chart's folder is there");
     ExitCode::from(u8::from(!done))
 }
 
@@ -95,22 +104,28 @@ fn tables(random: &mut Generator) -> [Table; 4] {
     ]
 }
 
-/// Measures and prints case by case. False where the ways of one do not make the same.
-fn print_table(table: &Table) -> bool {
+/// Measures and prints case by case. None where the ways of one do not make the same.
+fn print_table(table: &Table) -> Option<Vec<Measured>> {
     print_head(&table.title);
-    table.cases.iter().all(|case| {
-        let agree = case.ways_agree();
-        if agree {
-            let times = measure(&case.passes(), case.count as f64 * table.unit);
-            for (way, own) in case.variants.iter().zip(&times) {
-                print_row(case.function, &case.set, way.name, own, &times[0]);
-            }
-        } else {
-            eprintln!(
-                "bench: {} over {}: the sums of the results differ too much, so times say nothing",
-                case.function, case.set
-            );
-        }
-        agree
+    let unit = table.unit;
+    table.cases.iter().map(|case| print_case(case, unit)).collect()
+}
+
+fn print_case(case: &Case, unit: f64) -> Option<Measured> {
+    if !case.ways_agree() {
+        eprintln!(
+            "bench: {} over {}: the sums of the results differ too much, so times say nothing",
+            case.function, case.set
+        );
+        return None;
+    }
+    let times = measure(&case.passes(), case.count as f64 * unit);
+    for (way, own) in case.variants.iter().zip(&times) {
+        print_row(case.function, &case.set, way.name, own, &times[0]);
+    }
+    let names = case.variants.iter().map(|way| way.name);
+    Some(Measured {
+        set: case.set.clone(),
+        ways: names.zip(times).collect(),
     })
 }

@@ -11,7 +11,8 @@ pub struct Variant {
     pub pass: fn(&[u64], &[u64]) -> u64,
 }
 
-/// Ours, then Rust's twice: behind a call as ours is, and as the plain loop a compiler may unroll.
+/// Ours, then Rust's twice: behind a call as ours is, and as the plain loop a compiler may unroll; whole frames have in its place the
+/// build with every instruction of the processor.
 pub type Ways = [Variant; 3];
 
 /// The three ways to make one kind of pass.

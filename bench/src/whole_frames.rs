@@ -4,6 +4,7 @@ use crate::cases::Case;
 use crate::constants::{MAX_LF0, MIN_LF0, NODATA};
 use crate::frames::{FRAME, FRAMES, Frame, RATE, Setting, VOLUME};
 use crate::generator::Generator;
+use crate::native::NativeVocoder;
 use crate::shim::{Configuration, Voice};
 use crate::variants::{Variant, Ways, floats};
 use crate::vocoder::Vocoder;
@@ -23,8 +24,10 @@ const WAYS: Ways = [
         pass: |frames, setting| over(frames, setting, rust_open, rust_synthesize),
     },
     Variant {
-        name: "Rust, inlined",
-        pass: |frames, setting| over(frames, setting, rust_open, synthesize),
+        name: "Rust, native",
+        pass: |frames, setting| {
+            over(frames, setting, NativeVocoder::open, NativeVocoder::synthesize)
+        },
     },
 ];
 
@@ -119,11 +122,7 @@ fn rust_open(setting: Setting) -> Vocoder {
     Vocoder::new(nmcp, nlpf, stage, false, rate, alpha, beta, VOLUME, FRAME)
 }
 
-fn synthesize(vocoder: &mut Vocoder, frame: Frame, samples: &mut [f64]) {
-    vocoder.synthesize(frame.lf0, frame.spectrum, frame.lpf, samples);
-}
-
 #[inline(never)]
 fn rust_synthesize(vocoder: &mut Vocoder, frame: Frame, samples: &mut [f64]) {
-    synthesize(vocoder, frame, samples);
+    vocoder.synthesize(frame.lf0, frame.spectrum, frame.lpf, samples);
 }
