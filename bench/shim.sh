@@ -1,5 +1,5 @@
-# shellcheck shell=bash disable=SC2154 # bench/run sets here and work
-# Sourced by bench/run after native.sh: builds shim.c, by which the benchmark reaches our functions with structs by value.
+# shellcheck shell=bash disable=SC2154 # the sourcing script sets here
+# Sourced by bench/run and bindings/run after native.sh: builds shim.c, which reaches our functions with structs by value.
 
 # How the functions of ours that the modules $* have or call take their arguments: a line a function.
 passing() {
