@@ -1,5 +1,5 @@
-// The six calls by value where the processor is not x86-64. There the archive's functions pass structs in the way of x86-64, and bench/shim.c,
-// which is built as they are, reaches them by pointers: so these have the names and the convention that a caller in C expects.
+// The six calls by value where the processor is not x86-64. There the archive's functions pass structs in the way of x86-64, and bench/shim_voice.c,
+// built as they are, reaches them by pointers. So these have the names and the convention that a caller in C expects.
 #include "c/kipawnore.h"
 
 uint64_t shim_open(kipawnore_voice *voice, const kipawnore_configuration *configuration);

@@ -1,16 +1,26 @@
 # shellcheck shell=bash disable=SC2154 # bindings/run sets here, root, work and compile
 # Sourced by bindings/run where the processor is not x86-64, after bench/native.sh and bench/shim.sh: the archive under the same names for it.
 
-# Writes libexport_voice.a for this processor to folder $1: our module and the shim, both by the road of bench/native.sh, with native.c over them.
-# Only native.c's functions keep the calls' names. What the shim has of the excitation, which is no part of this archive, stays unlinked.
+# The folder of our archive for this processor, by the road of bench/native.sh, with its module: folder $1, where its archive is so, else one that is
+# made, again only where the archive in folder $1 has become newer.
+native_folder() {
+    local made=$work/native
+    if archive_is_native "$1"; then
+        made=$1
+    elif ! [ "$made/libexport_voice.a" -nt "$1/libexport_voice.a" ]; then
+        native_archive "$made" export_voice
+    fi
+    printf '%s\n' "$made"
+}
+
+# Writes libexport_voice.a to folder $1: that of folder $2 and the shim joined, in which only the shim's names stay, and native.c over them.
 by_value_archive() {
-    local out=$1 parts=$work/native
-    native_archive "$parts" export_voice
-    (here=$root/bench && build_shim "$parts" "$parts")
+    local out=$1 from=$2
     mkdir -p "$out"
-    ld -r "$parts/export_voice.o" "$parts/shim.o" -o "$parts/module.o"
-    objcopy --wildcard --keep-global-symbol='shim_*' --weaken-symbol='kipawnore_*' "$parts/module.o"
-    "${compile[@]}" -fPIC -c "$here/native.c" -o "$parts/native.o"
+    build_shim "$work/shim" "$from" shim_voice
+    ld -r --whole-archive "$from/libexport_voice.a" "$work/shim/libshim.a" -o "$out/joined.o"
+    objcopy --wildcard --keep-global-symbol='shim_*' "$out/joined.o"
+    "${compile[@]}" -fPIC -c "$here/native.c" -o "$out/native.o"
     rm -f "$out/libexport_voice.a"
-    ar rcs "$out/libexport_voice.a" "$parts/module.o" "$parts/native.o"
+    ar rcs "$out/libexport_voice.a" "$out/joined.o" "$out/native.o"
 }

@@ -167,13 +167,17 @@ static uint64_t meter_said(const start *start) {
     return meter;
 }
 
-// Does a job that is killed until there were enough kills in all.
+static bool enough(const tally *tally, unsigned wanted) {
+    return tally->kills >= wanted && tally->resumes >= wanted;
+}
+
+// Does a job that is killed until there were enough kills and resumes in all.
 static void interrupted(const char *folder, unsigned wanted, uint64_t longest, tally *tally) {
     start last = { .killed = true };
     clear(folder);
     for (bool anew = false; last.killed; anew = true) {
         uint64_t saved = meter_of(folder);
-        last = run(folder, tally->kills < wanted ? 1 + below(longest) : 0);
+        last = run(folder, enough(tally, wanted) ? 0 : 1 + below(longest));
         bool at_work = began(&last, saved, anew, tally);
         if (meter_of(folder) < saved) end(1, "goes back behind its last save", worker);
         tally->kills += last.killed && at_work;
@@ -215,10 +219,11 @@ static uint64_t uninterrupted(const char *folder) {
 }
 
 static void print_tally(const char *language, const tally *tally, uint64_t meter) {
-    printf("crash test (%s): %u kills, %u resumes and %u starts before the first save, %u jobs, bytes equal, meters equal (%" PRIu64 "); "
-           "found after a kill: samples past the save %u times, a save not yet in place %u times; not counted: %u kills before the worker "
-           "had begun\n",
-           language, tally->kills, tally->resumes, tally->begun_again, tally->jobs, meter, tally->ahead, tally->torn, tally->early);
+    printf("crash test (%s): after a kill there were samples past the save %u times, a save not yet in place %u times, no save yet %u times; "
+           "%u kills more, before the worker had begun, are not counted\n",
+           language, tally->ahead, tally->torn, tally->begun_again, tally->early);
+    printf("crash test (%s): %u kills, %u resumes, %u jobs, bytes equal, meters equal (%" PRIu64 ")\n", language, tally->kills, tally->resumes,
+           tally->jobs, meter);
 }
 
 int main(int count, char **words) {
@@ -235,7 +240,7 @@ int main(int count, char **words) {
     printf("crash test (%s): seed %" PRIu64 ", uninterrupted %" PRIu64 " ms, kills within %" PRIu64 " ms of a start\n", words[1], seed,
            taken / 1000000, longest / 1000000);
     tally tally = { 0 };
-    while (tally.kills < wanted) {
+    while (!enough(&tally, wanted)) {
         interrupted(cut, wanted, longest, &tally);
         compare(whole, cut);
     }
