@@ -18,9 +18,9 @@ by_value_archive() {
     local out=$1 from=$2
     mkdir -p "$out"
     build_shim "$work/shim" "$from" shim_voice
-    ld -r --whole-archive "$from/libexport_voice.a" "$work/shim/libshim.a" -o "$out/joined.o"
-    objcopy --wildcard --keep-global-symbol='shim_*' "$out/joined.o"
-    "${compile[@]}" -fPIC -c "$here/native.c" -o "$out/native.o"
+    ld -r --whole-archive "$from/libexport_voice.a" "$work/shim/libshim.a" -o "$out/joined.o" || fail "the shim does not link"
+    objcopy --wildcard --keep-global-symbol='shim_*' "$out/joined.o" || fail "the shim's names do not stay alone"
+    "${compile[@]}" -fPIC -c "$here/native.c" -o "$out/native.o" || fail "native.c does not build"
     rm -f "$out/libexport_voice.a"
     ar rcs "$out/libexport_voice.a" "$out/joined.o" "$out/native.o"
 }

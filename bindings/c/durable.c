@@ -7,6 +7,7 @@
 #include <sys/stat.h>
 #include <unistd.h>
 
+// Ends the program where a call of the system failed.
 static void require(int holds, const char *what, const char *name) {
     if (holds) return;
     fprintf(stderr, "%s: %s: %s\n", name, what, strerror(errno));
@@ -28,8 +29,10 @@ int open_appended(int folder, const char *name) {
 void cut_file(int file, const char *name, size_t length) {
     struct stat found;
     require(fstat(file, &found) == 0, "cannot be measured", name);
-    errno = 0;
-    require((size_t)found.st_size >= length, "has lost what was saved", name);
+    if ((size_t)found.st_size < length) {
+        fprintf(stderr, "%s: has lost what was saved\n", name);
+        exit(2);
+    }
     require(ftruncate(file, (off_t)length) == 0, "cannot be cut", name);
 }
 
