@@ -24,9 +24,10 @@ typedef struct {
     char said[SAID];
 } start;
 
-// What came up in all jobs.
+// What came up in all jobs. More starts than so many for each kill wanted, and the worker does not get on.
+enum { MOST_STARTS = 20 };
 typedef struct {
-    unsigned kills, early, resumes, begun_again, ahead, torn, jobs;
+    unsigned starts, kills, early, resumes, begun_again, ahead, torn, jobs;
 } tally;
 
 static const char *worker, *data;
@@ -177,6 +178,7 @@ static void interrupted(const char *folder, unsigned wanted, uint64_t longest, t
     clear(folder);
     for (bool anew = false; last.killed; anew = true) {
         uint64_t saved = meter_of(folder);
+        if (tally->starts++ > MOST_STARTS * wanted) end(2, "does not get on", worker);
         last = run(folder, enough(tally, wanted) ? 0 : 1 + below(longest));
         bool at_work = began(&last, saved, anew, tally);
         if (meter_of(folder) < saved) end(1, "goes back behind its last save", worker);
@@ -195,10 +197,15 @@ static void compare(const char *whole, const char *cut) {
     if (!same_file(whole, cut, "state")) end(1, "the states differ", cut);
 }
 
-// The longest time before a kill: a fiftieth of the job, but not less than 20 ms nor more than 100.
+static uint64_t larger(uint64_t one, uint64_t other) {
+    return one > other ? one : other;
+}
+
+// The longest time before a kill: a fiftieth of the job, but not more than 100 ms, since there are many; and on a slow disk a two-hundredth, nor less than
+// 20 ms, since some frames are to be done.
 static uint64_t longest_of(uint64_t taken) {
     const uint64_t least = NANOSECONDS / 50, most = NANOSECONDS / 10, part = taken / 50;
-    return part < least ? least : part > most ? most : part;
+    return larger(part < most ? part : most, larger(taken / 200, least));
 }
 
 // The uninterrupted job, whose samples must be those of the Rust. Gives the time that it took.
