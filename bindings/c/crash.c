@@ -149,7 +149,7 @@ static void look(const char *folder, tally *tally) {
     tally->torn += stat(path, &found) == 0;
 }
 
-// Holds what the worker said at its start to the save that it found. False where it was killed before it said so.
+// Holds what the worker said at its start to the save that it found. False where it was killed before it said anything.
 static bool began(const start *start, uint64_t saved, bool anew, tally *tally) {
     uint64_t from;
     char how[16];
@@ -190,7 +190,7 @@ static void interrupted(const char *folder, unsigned wanted, uint64_t longest, t
     tally->jobs++;
 }
 
-// Whether a job came to what the uninterrupted one did: the samples, the whole state, and in it the meter.
+// Ends the test where a job did not come to what the uninterrupted one did: the samples, the meter, the whole state.
 static void compare(const char *whole, const char *cut) {
     if (!same_file(whole, cut, "samples")) end(1, "the samples differ", cut);
     if (meter_of(whole) != meter_of(cut)) end(1, "the meters differ", cut);
@@ -201,8 +201,8 @@ static uint64_t larger(uint64_t one, uint64_t other) {
     return one > other ? one : other;
 }
 
-// The longest time before a kill: a fiftieth of the job, but not more than 100 ms, since there are many; and on a slow disk a two-hundredth, nor less than
-// 20 ms, since some frames are to be done.
+// The longest time before a kill: a fiftieth of the job, held between 20 and 100 ms; but at least a two-hundredth, so that some frames are done on a
+// slow disk too.
 static uint64_t longest_of(uint64_t taken) {
     const uint64_t least = NANOSECONDS / 50, most = NANOSECONDS / 10, part = taken / 50;
     return larger(part < most ? part : most, larger(taken / 200, least));

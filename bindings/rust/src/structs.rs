@@ -96,49 +96,65 @@ pub(crate) struct Saved {
     pub bytes: usize,
 }
 
+impl Configuration {
+    const ZERO: Self = Self {
+        nmcp: 0,
+        nlpf: 0,
+        stage: 0,
+        log: false,
+        rate: 0,
+        alpha: 0.0,
+        beta: 0.0,
+        volume: 0.0,
+        fperiod: 0,
+        nodata: 0.0,
+        low: 0.0,
+        high: 0.0,
+    };
+}
+
+impl Pulse {
+    const ZERO: Self = Self {
+        pitch: 0.0,
+        counter: 0.0,
+        increment: 0.0,
+        end: 0.0,
+    };
+}
+
+impl Random {
+    const ZERO: Self = Self {
+        next: 0,
+        used: 0,
+        queue: [0.0; 64],
+    };
+}
+
+impl Zero {
+    const ZERO: Self = Self {
+        d11: [0.0; 6],
+        d12: [0.0; 6],
+        d21: [0.0; 384],
+        d22: [0.0; 6],
+    };
+}
+
 impl Voice {
     /// The voice of zeros, which every call but restore refuses.
     pub const fn idle() -> Self {
         Self {
-            configuration: Configuration {
-                nmcp: 0,
-                nlpf: 0,
-                stage: 0,
-                log: false,
-                rate: 0,
-                alpha: 0.0,
-                beta: 0.0,
-                volume: 0.0,
-                fperiod: 0,
-                nodata: 0.0,
-                low: 0.0,
-                high: 0.0,
-            },
+            configuration: Configuration::ZERO,
             meter: 0,
             left: 0,
             first: false,
-            pulse: Pulse {
-                pitch: 0.0,
-                counter: 0.0,
-                increment: 0.0,
-                end: 0.0,
-            },
+            pulse: Pulse::ZERO,
             line: [0.0; 64],
             lpf: [0.0; 64],
-            random: Random {
-                next: 0,
-                used: 0,
-                queue: [0.0; 64],
-            },
+            random: Random::ZERO,
             coefficients: [0.0; 64],
             increments: [0.0; 64],
             targets: [0.0; 64],
-            zero: Zero {
-                d11: [0.0; 6],
-                d12: [0.0; 6],
-                d21: [0.0; 384],
-                d22: [0.0; 6],
-            },
+            zero: Zero::ZERO,
             nonzero: [0.0; 512],
         }
     }
