@@ -1,5 +1,5 @@
-# shellcheck shell=bash disable=SC2154 # bench/run sets work and root
-# Sourced by bench/run where the processor is not x86-64. `rt staticlib` has the kit's clang compile one
+# shellcheck shell=bash disable=SC2154 # the sourcing script sets work and root
+# Sourced by bench/run and bindings/run where the processor is not x86-64. `rt staticlib` has the kit's clang compile one
 # module of LLVM for x86-64; here the same clang compiles the very same module for the processor at hand.
 
 # A view of the kit in folder $2 whose clang also leaves the module that it is given in folder $3.
@@ -45,7 +45,7 @@ archive_object() {
 native_archive() {
     local out=$1 name=$2 kept=$work/module
     lay_out_kit "$(kit_folder)" "$work/kit" "$kept"
-    (cd "$root" && RATTLE_HOME=$work/kit rt staticlib "$name") >"$work/staticlib.log" 2>&1 || fail "$name is not proved: see target/bench/staticlib.log"
+    (cd "$root" && RATTLE_HOME=$work/kit rt staticlib "$name") >"$work/staticlib.log" 2>&1 || fail "$name is not proved: see ${work#"$root/"}/staticlib.log"
     mkdir -p "$out"
     "$(kit_clang)" --target=x86_64-unknown-linux-gnu -S -emit-llvm -x ir "$kept/module.bc" -o "$out/$name.ll"
     native_object "$out/$name"

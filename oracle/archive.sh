@@ -1,5 +1,5 @@
 # shellcheck shell=bash disable=SC2154 # the sourcing script sets tool and root
-# Sourced by oracle/run and bench/run: the static libraries of our functions, and cargo without extra flags.
+# Sourced by oracle/run, bench/run and bindings/run: the static libraries of our functions, and cargo without extra flags.
 
 # Ends the script with a message and status 2: nothing was compared or measured.
 fail() {
@@ -7,7 +7,7 @@ fail() {
     exit 2
 }
 
-# The crates whose static libraries are linked.
+# The crates whose static libraries are linked. A script that needs fewer names them itself.
 archives=(exports export_mel export_pairs export_preparing export_filters export_voice)
 
 # The folder of the archives: EXPORTS_DIR, or where `rt staticlib` writes them.
@@ -22,8 +22,8 @@ archive_folder() {
 # Whether the archives in folder $1 hold code of this machine's processor. `rt` writes x86-64 only.
 archive_is_native() {
     local machine
-    command -v readelf >/dev/null || fail "readelf (binutils) is needed, to tell whose code libexports.a is"
-    machine=$(LC_ALL=C readelf -h "$1/libexports.a" 2>/dev/null | sed -n 's/^ *Machine: *//p' | sort -u) || true
+    command -v readelf >/dev/null || fail "readelf (binutils) is needed, to tell whose code the archives are"
+    machine=$(LC_ALL=C readelf -h "$1/lib${archives[0]}.a" 2>/dev/null | sed -n 's/^ *Machine: *//p' | sort -u) || true
     case $(uname -m):$machine in
         x86_64:*X86-64 | aarch64:AArch64) true ;;
         *) false ;;

@@ -1,4 +1,4 @@
-//! Our functions that take and give structs by value, reached by pointers through shim.c.
+//! Our functions that take and give structs by value, reached by pointers through shim.c and shim_voice.c.
 
 use crate::excitation_structs::{Pulse, Random};
 use crate::frames::Frame;
@@ -26,7 +26,7 @@ pub struct Voice {
     words: [u64; 1319],
 }
 
-/// The sizes that shim.c has too.
+/// The sizes that shim_voice.c has too.
 const _: () = assert!(size_of::<Configuration>() == 96 && size_of::<Voice>() == 10552);
 
 // The shim before what it calls: a linker may take the archives in this order only.

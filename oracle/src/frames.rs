@@ -34,11 +34,14 @@ pub struct FrameSet {
     pub most: f64,
 }
 
+/// The announcement's streams of spectra, each with its stage.
+pub const SPECTRA: [(&str, usize); 2] = [("announcement.sp", 0), ("announcement.lsp2", 2)];
+
 /// The announcement as cepstra (stage 0) and as line spectral pairs (stage 2), each without postfilter
 /// and with it.
 pub fn announcement(folder: &Path) -> Result<Vec<FrameSet>, String> {
     let mut sets = Vec::new();
-    for (spectra, stage) in [("announcement.sp", 0), ("announcement.lsp2", 2)] {
+    for (spectra, stage) in SPECTRA {
         for beta in [0.0, 0.4] {
             sets.push(announcement_at(folder, spectra, stage, beta)?);
         }

@@ -2,6 +2,7 @@
 //! the fixed lists. A comparison that needs private functions of the pinned Rust may
 //! `include!("vocoder/FILE.rs")` into a module of its own: the copies stand beside this file.
 
+mod announcement;
 mod answerers;
 mod bridge;
 mod check_fir;
@@ -100,7 +101,7 @@ use std::rc::Rc;
 
 const SEED: u64 = 1;
 const USAGE: &str = "usage: oracle patterns | roots | excitations | spectra | filters | voices, or, with our functions linked in or \
-                     behind a bridge, oracle compare|calls|frames|stretches|prepared|filtered|voiced [EMULATOR BRIDGE]";
+                     behind a bridge, oracle compare|calls|frames|stretches|prepared|filtered|voiced|announcement [EMULATOR BRIDGE]";
 
 fn main() -> ExitCode {
     let words: Vec<String> = std::env::args().skip(1).collect();
@@ -139,8 +140,7 @@ fn printed(print: fn()) -> Result<bool, String> {
 }
 
 fn print_voices() -> Result<bool, String> {
-    let folder = announcement_folder().ok_or("the announcement is not in ORACLE_FRAMES")?;
-    voices::print_cases(&folder).map(|()| true)
+    voices::print_cases(&the_announcement()?).map(|()| true)
 }
 
 /// The seed of the random inputs: ORACLE_SEED, or a fixed one.
@@ -159,6 +159,11 @@ fn announcement_folder() -> Option<PathBuf> {
     folder.join("announcement.lf0").is_file().then_some(folder)
 }
 
+/// The same where nothing can be done without it.
+fn the_announcement() -> Result<PathBuf, String> {
+    announcement_folder().ok_or("the announcement is not in ORACLE_FRAMES".to_string())
+}
+
 /// Does what is asked with our functions within reach.
 fn with(what: &str, ours: Ours, reached: &str) -> Result<bool, String> {
     let ours = Rc::new(RefCell::new(ours));
@@ -168,6 +173,7 @@ fn with(what: &str, ours: Ours, reached: &str) -> Result<bool, String> {
         "prepared" => spectra::print_outcomes(ours).map(|()| true),
         "filtered" => filters::print_outcomes(ours).map(|()| true),
         "voiced" => voices::print_outcomes(&ours).map(|()| true),
+        "announcement" => announcement::print_jobs(&ours, &the_announcement()?).map(|()| true),
         _ => Err(USAGE.to_string()),
     }
 }
