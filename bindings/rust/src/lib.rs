@@ -50,3 +50,8 @@ extern crate self as kipawnore;
 
 /// The room that the largest voice needs to be saved.
 pub const MOST_BYTES: usize = 14_672;
+
+/// The uses that the README of the repository has: they are compiled and run with the tests.
+#[cfg(doctest)]
+#[doc = include_str!("../../../README.md")]
+struct Readme;
