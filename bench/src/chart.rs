@@ -36,7 +36,10 @@ pub fn svg(cases: &[Measured]) -> String {
 /// The greatest median/best.
 fn noise(cases: &[Measured]) -> f64 {
     let of = |(_, times): &(&str, Times)| times.median / times.best;
-    cases.iter().flat_map(|case| case.ways.iter().map(of)).fold(1.0, f64::max)
+    cases
+        .iter()
+        .flat_map(|case| case.ways.iter().map(of))
+        .fold(1.0, f64::max)
 }
 
 fn add_case(text: &mut String, top: f64, case: &Measured) {

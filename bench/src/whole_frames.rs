@@ -26,7 +26,12 @@ const WAYS: Ways = [
     Variant {
         name: "Rust, native",
         pass: |frames, setting| {
-            over(frames, setting, NativeVocoder::open, NativeVocoder::synthesize)
+            over(
+                frames,
+                setting,
+                NativeVocoder::open,
+                NativeVocoder::synthesize,
+            )
         },
     },
 ];
