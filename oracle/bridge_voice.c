@@ -5,7 +5,7 @@
 #include "bridge_voice.h"
 
 // The words of a voice that hold a flag: the rest of such a word is nobody's.
-enum { LOG_GAIN = offsetof(Configuration, log_gain) / 8, FIRST = offsetof(Voice, first) / 8 };
+enum { LOG_GAIN = offsetof(Configuration, log) / 8, FIRST = offsetof(Voice, first) / 8 };
 
 typedef struct { double lf0; size_t nspectrum, nlpf, nout, start; } Asked;
 
@@ -14,7 +14,7 @@ static Voice voices[SLOTS];
 static Configuration configuration(const uint64_t *words) {
     Configuration read;
     memcpy(&read, words, sizeof read);
-    read.log_gain = words[LOG_GAIN] != 0;
+    read.log = words[LOG_GAIN] != 0;
     return read;
 }
 
@@ -26,7 +26,7 @@ static void write_voice(Voice *voice, const uint64_t *words) {
 
 static size_t read_voice(const Voice *voice, uint64_t *words) {
     memcpy(words, voice, sizeof *voice);
-    words[LOG_GAIN] = voice->configuration.log_gain;
+    words[LOG_GAIN] = voice->configuration.log;
     words[FIRST] = voice->first;
     return VOICE_WORDS;
 }

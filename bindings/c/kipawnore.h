@@ -7,7 +7,6 @@
 #ifndef KIPAWNORE_H
 #define KIPAWNORE_H
 
-#include <assert.h>
 #include <stdbool.h>
 #include <stddef.h>
 #include <stdint.h>
@@ -122,24 +121,30 @@ kipawnore_saved kipawnore_save(kipawnore_voice voice, uint8_t *out, size_t nout)
 // The voice in the records, in the place of any voice.
 kipawnore_answered kipawnore_restore(kipawnore_voice voice, const uint8_t *bytes, size_t nbytes);
 
-// The layout of the archive.
-static_assert(sizeof(size_t) == 8 && sizeof(bool) == 1 && sizeof(double) == 8, "the archive is of a processor of 64 bits");
-static_assert(sizeof(kipawnore_configuration) == 96, "configuration");
-static_assert(offsetof(kipawnore_configuration, log) == 24 && offsetof(kipawnore_configuration, rate) == 32, "the flag of the log gain");
-static_assert(offsetof(kipawnore_configuration, fperiod) == 64 && offsetof(kipawnore_configuration, high) == 88, "configuration's end");
-static_assert(sizeof(kipawnore_pulse) == 32 && sizeof(kipawnore_random) == 528, "pulse train and noise");
-static_assert(sizeof(kipawnore_zero) == 3216 && sizeof(kipawnore_nonzero) == 4096, "the filters");
-static_assert(offsetof(kipawnore_voice, meter) == 96 && offsetof(kipawnore_voice, left) == 104, "meter and samples left");
-static_assert(offsetof(kipawnore_voice, first) == 112 && offsetof(kipawnore_voice, pulse) == 120, "the first flag");
-static_assert(offsetof(kipawnore_voice, line) == 152 && offsetof(kipawnore_voice, lpf) == 664, "line and taps");
-static_assert(offsetof(kipawnore_voice, random) == 1176, "noise");
-static_assert(offsetof(kipawnore_voice, coefficients) == 1704 && offsetof(kipawnore_voice, increments) == 2216, "coefficients");
-static_assert(offsetof(kipawnore_voice, targets) == 2728, "targets");
-static_assert(offsetof(kipawnore_voice, zero) == 3240 && offsetof(kipawnore_voice, nonzero) == 6456, "where the filters are");
-static_assert(sizeof(kipawnore_voice) == 10552, "voice");
-static_assert(offsetof(kipawnore_answered, voice) == 8 && sizeof(kipawnore_answered) == 10560, "answered");
-static_assert(offsetof(kipawnore_drawn, voice) == 16 && sizeof(kipawnore_drawn) == 10568, "drawn");
-static_assert(sizeof(kipawnore_saved) == 16, "saved");
+// The layout of the archive. C++ has no underscore before the word.
+#ifdef __cplusplus
+#define KIPAWNORE_ASSERT static_assert
+#else
+#define KIPAWNORE_ASSERT _Static_assert
+#endif
+KIPAWNORE_ASSERT(sizeof(size_t) == 8 && sizeof(bool) == 1 && sizeof(double) == 8, "the archive is of a processor of 64 bits");
+KIPAWNORE_ASSERT(sizeof(kipawnore_configuration) == 96, "configuration");
+KIPAWNORE_ASSERT(offsetof(kipawnore_configuration, log) == 24 && offsetof(kipawnore_configuration, rate) == 32, "the flag of the log gain");
+KIPAWNORE_ASSERT(offsetof(kipawnore_configuration, fperiod) == 64 && offsetof(kipawnore_configuration, high) == 88, "configuration's end");
+KIPAWNORE_ASSERT(sizeof(kipawnore_pulse) == 32 && sizeof(kipawnore_random) == 528, "pulse train and noise");
+KIPAWNORE_ASSERT(sizeof(kipawnore_zero) == 3216 && sizeof(kipawnore_nonzero) == 4096, "the filters");
+KIPAWNORE_ASSERT(offsetof(kipawnore_voice, meter) == 96 && offsetof(kipawnore_voice, left) == 104, "meter and samples left");
+KIPAWNORE_ASSERT(offsetof(kipawnore_voice, first) == 112 && offsetof(kipawnore_voice, pulse) == 120, "the first flag");
+KIPAWNORE_ASSERT(offsetof(kipawnore_voice, line) == 152 && offsetof(kipawnore_voice, lpf) == 664, "line and taps");
+KIPAWNORE_ASSERT(offsetof(kipawnore_voice, random) == 1176, "noise");
+KIPAWNORE_ASSERT(offsetof(kipawnore_voice, coefficients) == 1704 && offsetof(kipawnore_voice, increments) == 2216, "coefficients");
+KIPAWNORE_ASSERT(offsetof(kipawnore_voice, targets) == 2728, "targets");
+KIPAWNORE_ASSERT(offsetof(kipawnore_voice, zero) == 3240 && offsetof(kipawnore_voice, nonzero) == 6456, "where the filters are");
+KIPAWNORE_ASSERT(sizeof(kipawnore_voice) == 10552, "voice");
+KIPAWNORE_ASSERT(offsetof(kipawnore_answered, voice) == 8 && sizeof(kipawnore_answered) == 10560, "answered");
+KIPAWNORE_ASSERT(offsetof(kipawnore_drawn, voice) == 16 && sizeof(kipawnore_drawn) == 10568, "drawn");
+KIPAWNORE_ASSERT(sizeof(kipawnore_saved) == 16, "saved");
+#undef KIPAWNORE_ASSERT
 
 #ifdef __cplusplus
 }
