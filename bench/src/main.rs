@@ -55,10 +55,15 @@ struct Table {
 }
 
 fn main() -> ExitCode {
+    let Some(chart) = std::env::args().nth(1) else {
+        eprintln!("usage: bench CHART (the file that the chart of whole frames is written to)");
+        return ExitCode::from(2);
+    };
     let least = STRETCH.as_millis();
     println!("{ROUNDS} interleaved rounds, each way at least {least} ms a round");
     println!("ours: called through the static libraries");
     println!("Rust, called: through an #[inline(never)] function; Rust, inlined: the plain loop");
+    println!("Rust, native: built with every instruction of this processor, through a call");
     println!("noise: median/best; ratios: ours/Rust, by best and by median");
     if FUSED {
         println!(
@@ -71,10 +76,6 @@ fn main() -> ExitCode {
         return ExitCode::from(1);
     };
     let done = breakdown::print(&tables[3].cases) && rests::print(random);
-    let Some(chart) = std::env::args().nth(1) else {
-        eprintln!("usage: bench CHART (the file that the chart of whole frames is written to)");
-        return ExitCode::from(2);
-    };
     std::fs::write(chart, chart::svg(&measured[3])).expect("the chart's folder is there");
     ExitCode::from(u8::from(!done))
 }

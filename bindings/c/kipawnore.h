@@ -15,7 +15,7 @@
 extern "C" {
 #endif
 
-// What a call answers. Where several apply, the first in this order: 0, 1, 2, 14, then 3 to 13. A refused call returns the voice it was handed.
+// What a call answers. Where several apply, the first in this order: 0, 1, 2, 14, then 3 to 13. A refused call returns the voice it was handed, but for 1 and 11.
 enum {
     KIPAWNORE_DONE = 0,
     KIPAWNORE_LIMIT_BROKEN = 1,     // open: the voice returned is idle
@@ -28,7 +28,7 @@ enum {
     KIPAWNORE_METER_FULL = 8,       // give: meter and fperiod come to more than 2^63 - 1
     KIPAWNORE_ARGUMENT_OUTSIDE = 9, // give: preparing meets an argument outside ln, cos or power
     KIPAWNORE_NOTHING_LEFT = 10,    // draw
-    KIPAWNORE_NOISE_DRY = 11,       // draw: the samples made stand. No input that we know of leads here
+    KIPAWNORE_NOISE_DRY = 11,       // draw: the samples made stand. No state of the noise leads here
     KIPAWNORE_RECORDS_LONGER = 12,  // save: the buffer is shorter than the records
     KIPAWNORE_RECORDS_WRONG = 13,   // restore: the records are not acceptable
     KIPAWNORE_BUFFER_SHORT = 14     // whole frame: less room than fperiod

@@ -28,7 +28,7 @@ impl Refusal {
     pub const ARGUMENT_OUTSIDE: Self = Self(9);
     /// Draw: nothing is left to draw.
     pub const NOTHING_LEFT: Self = Self(10);
-    /// Draw: the noise is dry. The samples made stand, and the meter tells how many. No input that we know of leads here.
+    /// Draw: the noise is dry. The samples made stand, and the meter tells how many. No state of the noise leads here.
     pub const NOISE_DRY: Self = Self(11);
     /// Save: the buffer is shorter than the records.
     pub const RECORDS_LONGER: Self = Self(12);

@@ -5,7 +5,7 @@ use number::range::is_finite;
 use number::range::strictly_within;
 use number::range::within;
 
-// The order of the spectrum.
+// The entries of a spectrum.
 pub const LEAST_NMCP: usize = 2;
 
 pub const MOST_NMCP: usize = 64;

@@ -49,8 +49,8 @@ fn inside(negative: bool, u: u64, k: u64) -> f64
 
 // e^x: NaN of the NaN, the infinity above 709, zero below -708.
 // Off the exact value, in factors of 1 + 2^-53: 5 for the polynomial in floats, 2 for its argument,
-// which is within 2^-54, 3 for the terms from 13 to 31, none for the power of two. That is 10, where
-// the band of 2^-48 is 32.
+// which is within 2^-54, 3 for the terms from 13 to 31, none for the power of two. That is 10, and
+// the band of 2^-48 has room for 31.
 pub fn exp(x: f64) -> f64
     ensures { λ r. ⌜ r ≡ expOf x ⌝ }
     ensures { λ r. ⌜ ExpAnswer x r ⌝ }

@@ -101,6 +101,6 @@ pub fn stretch(
 {
     let n = samples.len();
     let half = n / 2;
-    let between = part(f, &mut samples[0..half], c, increments, alpha, volume);
-    part(between, &mut samples[half..n], c, increments, alpha, volume)
+    let middle = part(f, &mut samples[0..half], c, increments, alpha, volume);
+    part(middle, &mut samples[half..n], c, increments, alpha, volume)
 }

@@ -1,4 +1,4 @@
-// Line spectral pairs: to linear prediction, to the mel-generalized cepstrum, and their energy.
+// Line spectral pairs: to the mel-generalized cepstrum, by way of linear prediction (`lattice`), and their energy.
 ghost use mathlib.Core.Path.{_≡_};
 ghost use Prim.Native.Nat.{_+_, _≤_};
 ghost use lib.ListN.{length};

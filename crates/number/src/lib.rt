@@ -1,4 +1,4 @@
-// Numbers: a float's bits, tests of floats, products that wrap, and 64-bit numbers as bytes. Nothing here has a `requires`.
+// Numbers: a float's bits, tests of floats, sums and products that wrap, and 64-bit numbers as bytes. Nothing public here has a `requires`.
 pub mod bits;
 pub mod range;
 pub mod word;
