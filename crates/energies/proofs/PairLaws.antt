@@ -1,5 +1,5 @@
 -- Two lists in one: what is read of each, what a store in one does, and the sums of both. Assumes nothing.
-use mathlib.Core.Path.{_≡_, refl, sym, ap, _∙_}
+use mathlib.Core.Path.{_≡_, refl, ap, _∙_}
 use mathlib.Core.List.{List, [], _∷_}
 use Prim.Native.Nat.{ℕ, zero, suc, _+_, _-_, _*_, _<_}
 use native.Mathlib.Omega.{arith}
@@ -16,7 +16,7 @@ use Rattle.energies.specs.Pairs.{evens, odds}
 
 module _ {ℓ} {A : Type ℓ} where
   -- entry i of each
-  pub even-at : (l : List A) (i j : ℕ) (z : A) → j ≡ 2 * i → getD l j z ≡ getD (evens l) i z
+  even-at : (l : List A) (i j : ℕ) (z : A) → j ≡ 2 * i → getD l j z ≡ getD (evens l) i z
   unfolding evens
   even-at [] i j z e = refl
   even-at (x ∷ []) zero zero z e = refl
@@ -29,7 +29,7 @@ module _ {ℓ} {A : Type ℓ} where
   even-at (x ∷ y ∷ l) (suc i) (suc zero) z e = absurd (omega arith)
   even-at (x ∷ y ∷ l) (suc i) (suc (suc j)) z e = even-at l i j z (omega arith)
 
-  pub odd-at : (l : List A) (i j : ℕ) (z : A) → j ≡ 2 * i + 1 → getD l j z ≡ getD (odds l) i z
+  odd-at : (l : List A) (i j : ℕ) (z : A) → j ≡ 2 * i + 1 → getD l j z ≡ getD (odds l) i z
   unfolding odds
   odd-at [] i j z e = refl
   odd-at (x ∷ l) i zero z e = absurd (omega arith)
@@ -101,19 +101,37 @@ all-taken l i e h = over-end (take i l) (replicate 576 0f) i (omega arith) ∙ t
 
 -- ---- the sums of both
 
-module _ (a b : List Float) (n k : ℕ) (d : Float) where
-  -- two more terms of the sum for entry n
-  pub two-terms : (p q s t : Float) → k < n → p ≡ a ‼ k → q ≡ b ‼ (n - k) → s ≡ a ‼ (k + 1) → t ≡ b ‼ (n - (k + 1))
-      → sumFrom (weighedTerm a b n) (k + 2) (n + 1 - (k + 2)) (d ⊕ p ⊗ q ⊕ s ⊗ t) ≡ sumFrom (weighedTerm a b n) k (n + 1 - k) d
-  two-terms p q s t h ep eq es et =
-      let two : k + 1 + 1 ≡ k + 2 = omega arith in
-      let second = sum-turn (weighedTerm a b n) (k + 1) (n + 1) (d ⊕ a ‼ k ⊗ b ‼ (n - k)) (omega arith) in
-      rw (ep, eq, es, et, ← two) (second ∙ sum-turn (weighedTerm a b n) k (n + 1) d (omega arith))
+-- two more terms of the sum for entry n
+two-terms : (a b : List Float) (n k : ℕ) (d : Float) → k < n
+    → sumFrom (weighedTerm a b n) (k + 2) (n + 1 - (k + 2)) (d ⊕ a ‼ k ⊗ b ‼ (n - k) ⊕ a ‼ (k + 1) ⊗ b ‼ (n - (k + 1))) ≡ sumFrom (weighedTerm a b n) k (n + 1 - k) d
+two-terms a b n k d h =
+    let two : k + 1 + 1 ≡ k + 2 = omega arith in
+    let second = sum-turn (weighedTerm a b n) (k + 1) (n + 1) (d ⊕ a ‼ k ⊗ b ‼ (n - k)) (omega arith) in
+    rw (← two) (second ∙ sum-turn (weighedTerm a b n) k (n + 1) d (omega arith))
 
-  -- the last one
-  pub last-term : (p q : Float) → k ≡ n → p ≡ a ‼ n → q ≡ b ‼ 0 → d ⊕ p ⊗ q ≡ sumFrom (weighedTerm a b n) k (n + 1 - k) d
-  unfolding sumFrom
-  last-term p q h ep eq =
-      let one : n + 1 - n ≡ 1 = omega arith in
-      let none : n - n ≡ 0 = omega arith in
-      rw (ep, eq, h, one, none) refl
+-- the last one
+last-term : (a b : List Float) (n : ℕ) (d : Float) → d ⊕ a ‼ n ⊗ b ‼ 0 ≡ sumFrom (weighedTerm a b n) n (n + 1 - n) d
+unfolding sumFrom
+last-term a b n d =
+    let one : n + 1 - n ≡ 1 = omega arith in
+    let none : n - n ≡ 0 = omega arith in
+    rw (one, none) refl
+
+-- the same, read in w and r at i and j, and then at i' and j'
+module _ (w r : List Float) (n k : ℕ) (d : Float) (i j i' j' : ℕ) where
+  pub even-turn : k < n → i ≡ 2 * k → j ≡ 2 * (n - k) → i' ≡ 2 * (k + 1) → j' ≡ 2 * (n - (k + 1))
+      → sumFrom (weighedTerm (evens w) (evens r) n) (k + 2) (n + 1 - (k + 2)) (d ⊕ w ‼ i ⊗ r ‼ j ⊕ w ‼ i' ⊗ r ‼ j') ≡ sumFrom (weighedTerm (evens w) (evens r) n) k (n + 1 - k) d
+  even-turn h a b a' b' =
+      rw (even-at w k i nan a, even-at r (n - k) j nan b, even-at w (k + 1) i' nan a', even-at r (n - (k + 1)) j' nan b') (two-terms (evens w) (evens r) n k d h)
+
+  pub odd-turn : k < n → i ≡ 2 * k + 1 → j ≡ 2 * (n - k) + 1 → i' ≡ 2 * (k + 1) + 1 → j' ≡ 2 * (n - (k + 1)) + 1
+      → sumFrom (weighedTerm (odds w) (odds r) n) (k + 2) (n + 1 - (k + 2)) (d ⊕ w ‼ i ⊗ r ‼ j ⊕ w ‼ i' ⊗ r ‼ j') ≡ sumFrom (weighedTerm (odds w) (odds r) n) k (n + 1 - k) d
+  odd-turn h a b a' b' =
+      rw (odd-at w k i nan a, odd-at r (n - k) j nan b, odd-at w (k + 1) i' nan a', odd-at r (n - (k + 1)) j' nan b') (two-terms (odds w) (odds r) n k d h)
+
+module _ (w r : List Float) (n k : ℕ) (d : Float) (i j : ℕ) where
+  pub even-last : k ≡ n → i ≡ 2 * n → j ≡ 0 → d ⊕ w ‼ i ⊗ r ‼ j ≡ sumFrom (weighedTerm (evens w) (evens r) n) k (n + 1 - k) d
+  even-last h a b = rw (even-at w n i nan a, even-at r 0 j nan b, h) (last-term (evens w) (evens r) n d)
+
+  pub odd-last : k ≡ n → i ≡ 2 * n + 1 → j ≡ 1 → d ⊕ w ‼ i ⊗ r ‼ j ≡ sumFrom (weighedTerm (odds w) (odds r) n) k (n + 1 - k) d
+  odd-last h a b = rw (odd-at w n i nan a, odd-at r 0 j nan b, h) (last-term (odds w) (odds r) n d)

@@ -1,14 +1,13 @@
 -- `sums` meets its contract: of both, the terms that are left give what all of them give. Assumes nothing.
 use mathlib.Core.Path.{_≡_, refl, sym, _∙_}
-use Prim.Native.Nat.{_+_, _-_, _*_, _≤_}
+use Prim.Native.Nat.{_+_, _-_, _≤_}
 use native.Mathlib.Omega.{arith}
-use lib.Ieee.{nan}
 use Rattle.number.specs.F64.{0f}
 use Rattle.vectors.specs.Vectors.{sumFrom}
 use Rattle.vectors.proofs.VectorLaws.{sum-done}
 use Rattle.cepstrum.specs.Weights.{weighedTerm}
 use Rattle.energies.specs.Pairs.{evens, odds}
-use Rattle.energies.proofs.PairLaws.{even-at, odd-at, two-terms, last-term}
+use Rattle.energies.proofs.PairLaws.{even-turn, odd-turn, even-last, odd-last}
 use borrow.Author.Needs.{needs}
 use Rattle.energies.proofs.sums.Statement.{statement}
 use Rattle.energies.proofs.sums.Tie as tie
@@ -114,9 +113,9 @@ loop-again c =
     let r = top .before .args .r .now in
     let n = top .before .args .n in
     let k = top .loop .k in
-    let first = two-terms (evens w) (evens r) n k (top .loop .first) _ _ _ _ (omega arith) (even-at w k (2 * k) nan refl) (even-at r (n - k) (2 * n - 2 * k) nan (omega arith)) (even-at w (k + 1) (2 * k + 2) nan (omega arith)) (even-at r (n - (k + 1)) (2 * n - 2 * k - 2) nan (omega arith)) in
-    let second = two-terms (odds w) (odds r) n k (top .loop .second) _ _ _ _ (omega arith) (odd-at w k (2 * k + 1) nan refl) (odd-at r (n - k) (2 * n - 2 * k + 1) nan (omega arith)) (odd-at w (k + 1) (2 * k + 3) nan (omega arith)) (odd-at r (n - (k + 1)) (2 * n - 2 * k - 1) nan (omega arith)) in
-    (omega arith, omega arith, first ∙ top .loop .inv .2, second ∙ top .loop .inv .3)
+    let first = top .loop .first in
+    let second = top .loop .second in
+    (omega arith, omega arith, even-turn w r n k first _ _ _ _ (omega arith) (omega arith) (omega arith) (omega arith) (omega arith) ∙ top .loop .inv .2, odd-turn w r n k second _ _ _ _ (omega arith) (omega arith) (omega arith) (omega arith) (omega arith) ∙ top .loop .inv .3)
 
 mul-first-5 : tie.Need-mul-first-5 Inv-loop μ-loop
 mul-first-5 c = search needs
@@ -146,10 +145,9 @@ returns c =
     let r = top .before .args .r .now in
     let n = top .before .args .n in
     let k = top .loop .k in
-    let e : k ≡ n = omega arith in
-    let first = last-term (evens w) (evens r) n k (top .loop .first) _ _ e (even-at w n (2 * n) nan refl) (even-at r 0 0 nan refl) in
-    let second = last-term (odds w) (odds r) n k (top .loop .second) _ _ e (odd-at w n (2 * n + 1) nan refl) (odd-at r 0 1 nan refl) in
-    (first ∙ top .loop .inv .2, second ∙ top .loop .inv .3)
+    let first = top .loop .first in
+    let second = top .loop .second in
+    (even-last w r n k first _ _ (omega arith) (omega arith) refl ∙ top .loop .inv .2, odd-last w r n k second _ _ (omega arith) (omega arith) refl ∙ top .loop .inv .3)
 
 returns-2 : tie.Need-returns-2 Inv-loop μ-loop
 returns-2 c =
