@@ -1,1 +1,1 @@
-mod ReverseLaws
+mod PairLaws

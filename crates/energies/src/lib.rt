@@ -1,13 +1,13 @@
 // The energies of two lists of coefficients at once. Each sum of an impulse response waits for itself only, so the two responses grow side
 // by side.
 ghost use mathlib.Core.Path.{_≡_};
-ghost use mathlib.Core.List.{reverse};
 ghost use Prim.Native.Nat.{_≤_, _<_};
 ghost use lib.ListN.{length};
 ghost use Rattle.number.specs.F64.{0f};
 ghost use Rattle.vectors.specs.Vectors.{sumFrom, energyOf};
 ghost use Rattle.cepstrum.specs.Cepstrum.{c2irOf, b2enOf};
 ghost use Rattle.cepstrum.specs.Weights.{weighedTerm};
+ghost use Rattle.energies.specs.Pairs.{evens, odds};
 use cepstrum::cepstrum::weights;
 use cepstrum::coefficients::b2c;
 
@@ -17,59 +17,74 @@ pub struct Both {
     pub second: f64,
 }
 
-// The sums of w[k] * ir[n - k] for k from 1 to n. r holds ir backwards, so that both lists are read forwards.
-fn sums(w1: &[f64], r1: &[f64], w2: &[f64], r2: &[f64], n: usize) -> Both
-    requires { ⌜ (n < length (now w1)) × (n < length (now w2)) × (n < 576) × (length (now r1) ≡ 576) × (length (now r2) ≡ 576) ⌝ }
-    ensures { λ r. ⌜ (r .first ≡ sumFrom (weighedTerm (now (w1 .entry)) (reverse (now (r1 .entry))) n) 1 n 0f) × (r .second ≡ sumFrom (weighedTerm (now (w2 .entry)) (reverse (now (r2 .entry))) n) 1 n 0f) ⌝ }
+// Of both, the sum of w[k] * r[n - k] for k from 1 to n. Two terms a turn, so that the two sums stay side by side in one register.
+fn sums(w: &[f64], r: &[f64], n: usize) -> Both
+    requires { ⌜ (n < 576) × (length (now w) ≡ 1152) × (length (now r) ≡ 1152) ⌝ }
+    ensures { λ d. ⌜ (d .first ≡ sumFrom (weighedTerm (evens (now (w .entry))) (evens (now (r .entry))) n) 1 n 0f) × (d .second ≡ sumFrom (weighedTerm (odds (now (w .entry))) (odds (now (r .entry))) n) 1 n 0f) ⌝ }
 {
-    let at = 575 - n;
+    let last = 2 * n;
     let mut first = 0.0;
     let mut second = 0.0;
     let mut k = 1;
-    while k <= n {
-        first += w1[k] * r1[at + k];
-        second += w2[k] * r2[at + k];
-        k += 1;
+    while k < n {
+        let i = 2 * k;
+        let j = last - i;
+        first = first + w[i] * r[j] + w[i + 2] * r[j - 2];
+        second = second + w[i + 1] * r[j + 1] + w[i + 3] * r[j - 1];
+        k += 2;
+    }
+    if k == n {
+        first += w[last] * r[0];
+        second += w[last + 1] * r[1];
     }
     Both { first, second }
 }
 
-// Copies 576 entries, the last one first.
-fn copy_reversed(from: &[f64], to: &mut [f64])
-    requires { ⌜ (length (now from) ≡ 576) × (length (now to) ≡ 576) ⌝ }
-    ensures { λ _. ⌜ now (to .exit) ≡ reverse (now (from .entry)) ⌝ }
+// The two lists in one, entry i of both at 2 * i and 2 * i + 1.
+fn interleaved(one: &[f64; 576], other: &[f64; 576]) -> [f64; 1152]
+    requires { ⌜ (length (now one) ≡ 576) × (length (now other) ≡ 576) ⌝ }
+    ensures { λ r. ⌜ (evens r ≡ now (one .entry)) × (odds r ≡ now (other .entry)) ⌝ }
 {
+    let mut both = [0.0; 1152];
     let mut i = 0;
     while i < 576 {
-        to[i] = from[575 - i];
+        both[2 * i] = one[i];
+        both[2 * i + 1] = other[i];
         i += 1;
     }
+    both
 }
 
-// The energies of the impulse responses of two cepstra, all of 576 entries. A response grows backwards: its entry n stands at 575 - n.
+// The energies of the impulse responses r1 and r2 of two cepstra, all of 576 entries. r is both, interleaved as the sums read them.
 fn responses(c1: &[f64; 576], c2: &[f64; 576]) -> Both
     requires { ⌜ (length (now c1) ≡ 576) × (length (now c2) ≡ 576) ⌝ }
     ensures { λ r. ⌜ (r .first ≡ energyOf (c2irOf 576 (now (c1 .entry)))) × (r .second ≡ energyOf (c2irOf 576 (now (c2 .entry)))) ⌝ }
 {
     let w1 = weights(c1);
     let w2 = weights(c2);
+    let w = interleaved(&w1, &w2);
+    let gain1 = exponential::exp(c1[0]);
+    let gain2 = exponential::exp(c2[0]);
     let mut r1 = [0.0; 576];
     let mut r2 = [0.0; 576];
-    r1[575] = exponential::exp(c1[0]);
-    r2[575] = exponential::exp(c2[0]);
+    let mut r = [0.0; 1152];
+    r1[0] = gain1;
+    r2[0] = gain2;
+    r[0] = gain1;
+    r[1] = gain2;
     let mut n = 1;
     while n < 576 {
-        let d = sums(&w1, &r1, &w2, &r2, n);
-        r1[575 - n] = d.first / n as f64;
-        r2[575 - n] = d.second / n as f64;
+        let d = sums(&w, &r, n);
+        let next1 = d.first / n as f64;
+        let next2 = d.second / n as f64;
+        r1[n] = next1;
+        r2[n] = next2;
+        r[2 * n] = next1;
+        r[2 * n + 1] = next2;
         n += 1;
     }
-    let mut ir1 = [0.0; 576];
-    let mut ir2 = [0.0; 576];
-    copy_reversed(&r1, &mut ir1);
-    copy_reversed(&r2, &mut ir2);
-    let first = vectors::energy(&ir1);
-    let second = vectors::energy(&ir2);
+    let first = vectors::energy(&r1);
+    let second = vectors::energy(&r2);
     Both { first, second }
 }
 

@@ -1,31 +1,38 @@
 -- `sums` meets its contract: of both, the terms that are left give what all of them give. Assumes nothing.
 use mathlib.Core.Path.{_≡_, refl, sym, _∙_}
-use mathlib.Core.List.{reverse}
 use Prim.Native.Nat.{_+_, _-_, _≤_}
 use native.Mathlib.Omega.{arith}
 use Rattle.number.specs.F64.{0f}
 use Rattle.vectors.specs.Vectors.{sumFrom}
 use Rattle.vectors.proofs.VectorLaws.{sum-done}
 use Rattle.cepstrum.specs.Weights.{weighedTerm}
-use Rattle.energies.proofs.ReverseLaws.{backwards-turn}
+use Rattle.energies.specs.Pairs.{evens, odds}
+use Rattle.energies.proofs.PairLaws.{even-turn, odd-turn, even-last, odd-last}
 use borrow.Author.Needs.{needs}
 use Rattle.energies.proofs.sums.Statement.{statement}
 use Rattle.energies.proofs.sums.Tie as tie
 
 abbrev Inv-loop : tie.InvT-loop
-Inv-loop w1 r1 w2 r2 n at first₀ second₀ k₀ first second k = (1 ≤ k) × (sumFrom (weighedTerm w1 (reverse r1) n) k (n + 1 - k) first ≡ sumFrom (weighedTerm w1 (reverse r1) n) 1 n 0f) × (sumFrom (weighedTerm w2 (reverse r2) n) k (n + 1 - k) second ≡ sumFrom (weighedTerm w2 (reverse r2) n) 1 n 0f)
+Inv-loop w r n last first₀ second₀ k₀ first second k =
+    (1 ≤ k) × (k ≤ n + 1) × (sumFrom (weighedTerm (evens w) (evens r) n) k (n + 1 - k) first ≡ sumFrom (weighedTerm (evens w) (evens r) n) 1 n 0f) × (sumFrom (weighedTerm (odds w) (odds r) n) k (n + 1 - k) second ≡ sumFrom (weighedTerm (odds w) (odds r) n) 1 n 0f)
 
 abbrev μ-loop : tie.MeasureT-loop
-μ-loop w1 r1 w2 r2 n at first₀ second₀ k₀ first second k = n + 1 - k
+μ-loop w r n last first₀ second₀ k₀ first second k = n + 1 - k
 
-sub-at : tie.Need-sub-at Inv-loop μ-loop
-sub-at c = search needs
+mul-last : tie.Need-mul-last Inv-loop μ-loop
+mul-last c = search needs
 
 loop-holds : tie.Need-loop-holds Inv-loop μ-loop
 loop-holds c =
     let n = c .args .n in
     let e : n + 1 - 1 ≡ n = omega arith in
-    (omega arith, rw e refl, rw e refl)
+    (omega arith, omega arith, rw e refl, rw e refl)
+
+mul-i : tie.Need-mul-i Inv-loop μ-loop
+mul-i c = search needs
+
+sub-j : tie.Need-sub-j Inv-loop μ-loop
+sub-j c = search needs
 
 mul-first : tie.Need-mul-first Inv-loop μ-loop
 mul-first c = search needs
@@ -33,14 +40,32 @@ mul-first c = search needs
 shared-slice-read-first : tie.Need-shared-slice-read-first Inv-loop μ-loop
 shared-slice-read-first c = search needs
 
-add-first : tie.Need-add-first Inv-loop μ-loop
-add-first c = search needs
-
 mul-first-2 : tie.Need-mul-first-2 Inv-loop μ-loop
 mul-first-2 c = search needs
 
 shared-slice-read-first-2 : tie.Need-shared-slice-read-first-2 Inv-loop μ-loop
 shared-slice-read-first-2 c = search needs
+
+add-first : tie.Need-add-first Inv-loop μ-loop
+add-first c = search needs
+
+mul-first-3 : tie.Need-mul-first-3 Inv-loop μ-loop
+mul-first-3 c = search needs
+
+shared-slice-read-first-3 : tie.Need-shared-slice-read-first-3 Inv-loop μ-loop
+shared-slice-read-first-3 c = search needs
+
+sub-first : tie.Need-sub-first Inv-loop μ-loop
+sub-first c = search needs
+
+mul-first-4 : tie.Need-mul-first-4 Inv-loop μ-loop
+mul-first-4 c = search needs
+
+shared-slice-read-first-4 : tie.Need-shared-slice-read-first-4 Inv-loop μ-loop
+shared-slice-read-first-4 c = search needs
+
+add-second : tie.Need-add-second Inv-loop μ-loop
+add-second c = search needs
 
 mul-second : tie.Need-mul-second Inv-loop μ-loop
 mul-second c = search needs
@@ -48,14 +73,32 @@ mul-second c = search needs
 shared-slice-read-second : tie.Need-shared-slice-read-second Inv-loop μ-loop
 shared-slice-read-second c = search needs
 
-add-second : tie.Need-add-second Inv-loop μ-loop
-add-second c = search needs
+add-second-2 : tie.Need-add-second-2 Inv-loop μ-loop
+add-second-2 c = search needs
 
 mul-second-2 : tie.Need-mul-second-2 Inv-loop μ-loop
 mul-second-2 c = search needs
 
 shared-slice-read-second-2 : tie.Need-shared-slice-read-second-2 Inv-loop μ-loop
 shared-slice-read-second-2 c = search needs
+
+add-second-3 : tie.Need-add-second-3 Inv-loop μ-loop
+add-second-3 c = search needs
+
+mul-second-3 : tie.Need-mul-second-3 Inv-loop μ-loop
+mul-second-3 c = search needs
+
+shared-slice-read-second-3 : tie.Need-shared-slice-read-second-3 Inv-loop μ-loop
+shared-slice-read-second-3 c = search needs
+
+sub-second : tie.Need-sub-second Inv-loop μ-loop
+sub-second c = search needs
+
+mul-second-4 : tie.Need-mul-second-4 Inv-loop μ-loop
+mul-second-4 c = search needs
+
+shared-slice-read-second-4 : tie.Need-shared-slice-read-second-4 Inv-loop μ-loop
+shared-slice-read-second-4 c = search needs
 
 add-k : tie.Need-add-k Inv-loop μ-loop
 add-k c = search needs
@@ -65,21 +108,57 @@ loop-less c = search needs
 
 loop-again : tie.Need-loop-again Inv-loop μ-loop
 loop-again c =
-    let top = c .before .before .before .before .before in
-    let a = top .before .args in
+    let top = c .before .before .before .before .before .before .before .before .before in
+    let w = top .before .args .w .now in
+    let r = top .before .args .r .now in
+    let n = top .before .args .n in
     let k = top .loop .k in
-    let first = backwards-turn (a .w1 .now) (a .r1 .now) (a .n) (575 - a .n) k (top .loop .first) (omega arith) (omega arith) in
-    let second = backwards-turn (a .w2 .now) (a .r2 .now) (a .n) (575 - a .n) k (top .loop .second) (omega arith) (omega arith) in
-    (omega arith, first ∙ top .loop .inv .1, second ∙ top .loop .inv .2)
+    let first = top .loop .first in
+    let second = top .loop .second in
+    (omega arith, omega arith, even-turn w r n k first _ _ _ _ (omega arith) (omega arith) (omega arith) (omega arith) (omega arith) ∙ top .loop .inv .2, odd-turn w r n k second _ _ _ _ (omega arith) (omega arith) (omega arith) (omega arith) (omega arith) ∙ top .loop .inv .3)
+
+mul-first-5 : tie.Need-mul-first-5 Inv-loop μ-loop
+mul-first-5 c = search needs
+
+shared-slice-read-first-5 : tie.Need-shared-slice-read-first-5 Inv-loop μ-loop
+shared-slice-read-first-5 c = search needs
+
+shared-slice-read-first-6 : tie.Need-shared-slice-read-first-6 Inv-loop μ-loop
+shared-slice-read-first-6 c = search needs
+
+add-second-4 : tie.Need-add-second-4 Inv-loop μ-loop
+add-second-4 c = search needs
+
+mul-second-5 : tie.Need-mul-second-5 Inv-loop μ-loop
+mul-second-5 c = search needs
+
+shared-slice-read-second-5 : tie.Need-shared-slice-read-second-5 Inv-loop μ-loop
+shared-slice-read-second-5 c = search needs
+
+shared-slice-read-second-6 : tie.Need-shared-slice-read-second-6 Inv-loop μ-loop
+shared-slice-read-second-6 c = search needs
 
 returns : tie.Need-returns Inv-loop μ-loop
 returns c =
-    let top = c .before in
-    let a = top .before .args in
+    let top = c .before .before .before .before .before .before in
+    let w = top .before .args .w .now in
+    let r = top .before .args .r .now in
+    let n = top .before .args .n in
     let k = top .loop .k in
-    let first = sum-done (weighedTerm (a .w1 .now) (reverse (a .r1 .now)) (a .n)) k (a .n + 1) (top .loop .first) (omega arith) in
-    let second = sum-done (weighedTerm (a .w2 .now) (reverse (a .r2 .now)) (a .n)) k (a .n + 1) (top .loop .second) (omega arith) in
-    (sym first ∙ top .loop .inv .1, sym second ∙ top .loop .inv .2)
+    let first = top .loop .first in
+    let second = top .loop .second in
+    (even-last w r n k first _ _ (omega arith) (omega arith) refl ∙ top .loop .inv .2, odd-last w r n k second _ _ (omega arith) (omega arith) refl ∙ top .loop .inv .3)
+
+returns-2 : tie.Need-returns-2 Inv-loop μ-loop
+returns-2 c =
+    let top = c .before .before in
+    let w = top .before .args .w .now in
+    let r = top .before .args .r .now in
+    let n = top .before .args .n in
+    let k = top .loop .k in
+    let first = sum-done (weighedTerm (evens w) (evens r) n) k (n + 1) (top .loop .first) (omega arith) in
+    let second = sum-done (weighedTerm (odds w) (odds r) n) k (n + 1) (top .loop .second) (omega arith) in
+    (sym first ∙ top .loop .inv .2, sym second ∙ top .loop .inv .3)
 
 pub sums-spec : {M : Type 1} → statement M
 sums-spec =
@@ -87,19 +166,41 @@ sums-spec =
     (tie.spec
     Inv-loop
     μ-loop
-    sub-at
+    mul-last
     loop-holds
+    mul-i
+    sub-j
     mul-first
     shared-slice-read-first
-    add-first
     mul-first-2
     shared-slice-read-first-2
+    add-first
+    mul-first-3
+    shared-slice-read-first-3
+    sub-first
+    mul-first-4
+    shared-slice-read-first-4
+    add-second
     mul-second
     shared-slice-read-second
-    add-second
+    add-second-2
     mul-second-2
     shared-slice-read-second-2
+    add-second-3
+    mul-second-3
+    shared-slice-read-second-3
+    sub-second
+    mul-second-4
+    shared-slice-read-second-4
     add-k
     loop-less
     loop-again
-    returns)
+    mul-first-5
+    shared-slice-read-first-5
+    shared-slice-read-first-6
+    add-second-4
+    mul-second-5
+    shared-slice-read-second-5
+    shared-slice-read-second-6
+    returns
+    returns-2)
