@@ -6,25 +6,25 @@ use number::range::strictly_within;
 use number::range::within;
 
 // The entries of a spectrum.
-pub const LEAST_NMCP: usize = 2;
+const LEAST_NMCP: usize = 2;
 
-pub const MOST_NMCP: usize = 64;
+const MOST_NMCP: usize = 64;
 
 // The filter taps of a frame.
-pub const MOST_NLPF: usize = 64;
+const MOST_NLPF: usize = 64;
 
 // 0 for mel-cepstra, else line spectral pairs with gamma = -1/stage.
-pub const MOST_STAGE: u64 = 8;
+const MOST_STAGE: u64 = 8;
 
 // Samples a second.
-pub const LEAST_RATE: u64 = 1;
+const LEAST_RATE: u64 = 1;
 
-pub const MOST_RATE: u64 = 192000;
+const MOST_RATE: u64 = 192000;
 
 // Samples a frame.
-pub const LEAST_FPERIOD: usize = 1;
+const LEAST_FPERIOD: usize = 1;
 
-pub const MOST_FPERIOD: usize = 4800;
+const MOST_FPERIOD: usize = 4800;
 
 // Where log-F0's low and high may lie, on both sides of 0.
 const FURTHEST: f64 = 20.0;

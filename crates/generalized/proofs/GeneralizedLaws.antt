@@ -81,10 +81,6 @@ gc2gc-first s (suc (suc n)) c h =
     let f = gc2gcEntry (gammaOf s) c in
     List·getD-append (grown f (suc n)) (f (grown f (suc n)) (suc n) ∷ []) nan 0 (omega (arith, length-grown f (suc n))) ∙ gc2gc-first s (suc n) c (omega arith)
 
-pub length-gc2gc : (s n : ℕ) (c : List Float) → length (gc2gcOf s n c) ≡ n
-unfolding gc2gcOf
-length-gc2gc s n c = length-grown (gc2gcEntry (gammaOf s) c) n
-
 -- ---- what an answer of a power makes of the definitions
 
 module _ (s : ℕ) (c : List Float) (r : Answer) where

@@ -2,11 +2,11 @@
 use mathlib.Core.Path.{_≡_, refl, sym, _∙_, ap}
 use mathlib.Core.List.{List, [], _∷_, _++_, append-assoc, append-nil}
 use Prim.Native.Nat.{ℕ, suc, _+_, _-_, _<_, _≤_}
-use native.Mathlib.Nat.{le-refl, add-zero}
+use native.Mathlib.Nat.{le-refl}
 use native.Mathlib.Numerals.{add-one}
 use native.Mathlib.Omega.{arith}
 use lib.ListN.{length, getD, take, drop, set, length-append, length-take, length-drop, take-append-drop, drop-of-length-le}
-use lib.Seq.{take-all, take-suc, take-suc-set, drop-cons, drop-set-lt, drop-drop, getD-take, getD-drop, getD-append-add, append-snoc, set-at, set-split, set-append-left, take-set-le, drop-set-add, take-at, drop-at, drop-append-le, take-append-le, length-take-le}
+use lib.Seq.{take-all, take-suc, take-suc-set, drop-cons, drop-set-lt, drop-drop, getD-take, getD-drop, getD-append-add, append-snoc, set-at, set-split, take-at, drop-at, length-take-le}
 pub use Rattle.number.specs.Lists.{over, row, putRow}
 
 module _ {ℓ} {A : Type ℓ} where
@@ -57,9 +57,6 @@ module _ {ℓ} {A : Type ℓ} where
   pub over-past : (xs d : List A) (i j : ℕ) (z : A) → length xs ≡ i → getD (over xs i d) (i + j) z ≡ getD d (i + j) z
   over-past xs d i j z e = rw (← e) (getD-append-add xs (drop (length xs) d) j z ∙ getD-drop (length xs) d j z)
 
-  pub over-here : (xs d : List A) (i : ℕ) (z : A) → length xs ≡ i → getD (over xs i d) i z ≡ getD d i z
-  over-here xs d i z e = rw add-zero at (over-past xs d i 0 z e)
-
   pub length-over : (xs d : List A) (i : ℕ) → length xs ≡ i → i ≤ length d → length (over xs i d) ≡ length d
   length-over xs d i e h = simp (length-append, length-drop) (omega arith)
 
@@ -79,13 +76,6 @@ module _ {ℓ} {A : Type ℓ} where
     -- a row that is put back as it was changes nothing
     pub putRow-row : putRow a e (row a e l) l ≡ l
     putRow-row = rw (take-append-drop (e - a) (drop a l)) (take-append-drop a l)
-
-    -- a store in the row is a store in the array
-    pub putRow-set : (j : ℕ) (v : A) → j < length (row a e l) → putRow a e (set (row a e l) j v) l ≡ set l (a + j) v
-    putRow-set j v h =
-        let front : take a (set l (a + j) v) ≡ take a l = take-set-le a l (a + j) v (omega arith) in
-        rw (← set-append-left (row a e l) (drop (e - a) (drop a l)) j v h, take-append-drop (e - a) (drop a l), ← drop-set-add a l j v, ← front)
-        (take-append-drop a (set l (a + j) v))
 
     module _ (el : e ≤ length l) where
       pub length-row : length (row a e l) ≡ e - a
@@ -117,13 +107,3 @@ module _ {ℓ} {A : Type ℓ} where
         later-row b f h =
             let n : e + (b - e) ≡ b = omega arith in
             ap (take (f - b)) (rw (← n, ← drop-drop (b - e) e (putRow a e r l), ← drop-drop (b - e) e l) (ap (drop (b - e)) putRow-after))
-
-        -- and so is one that ends by a
-        pub earlier-row : (b f : ℕ) → b ≤ f → f ≤ a → row b f (putRow a e r l) ≡ row b f l
-        earlier-row b f bf h = front (r ++ drop (e - a) (drop a l)) ∙ sym (front (drop a l)) ∙ ap (row b f) (take-append-drop a l)
-          where
-            front : (t : List A) → row b f (take a l ++ t) ≡ row b f (take a l)
-            front t =
-                let k : b ≤ length (take a l) = omega (arith, before-row) in
-                let m : f - b ≤ length (drop b (take a l)) = simp length-drop (omega (arith, before-row)) in
-                rw (drop-append-le b (take a l) t k) (take-append-le (f - b) (drop b (take a l)) t m)
