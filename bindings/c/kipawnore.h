@@ -1,5 +1,5 @@
 // The voice of libexport_voice.a for C and C++: six calls, each with its answer by value. What they answer is document 01's, proved for
-// every input. No call allocates, keeps anything or reads a clock; voices may be used in any threads. A call takes some 170 KiB of stack.
+// every input. No call allocates, keeps anything or reads a clock; voices may be used in any threads. A call takes some 190 KiB of stack.
 //
 // A caller owes three things. A pointer with a length goes with that many elements, aligned as C aligns them; NULL goes with a length
 // of 0. A buffer that is written overlaps nothing else that is handed in. A flag is false or true: an assignment always makes it

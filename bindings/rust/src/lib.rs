@@ -3,7 +3,7 @@
 //!
 //! The six calls are those of libexport_voice.a, proved for every input; what they answer is document 01's. So no function here panics,
 //! allocates or needs a check of its caller: whatever it is given, it does what it says or answers a [`Refusal`] and changes nothing.
-//! What it takes is stack, some 170 KiB of it, and up to 290 where it is built without optimisation: a voice is 10,552 bytes and goes by value.
+//! What it takes is stack, some 190 KiB of it, and some 310 where it is built without optimisation: a voice is 10,552 bytes and goes by value.
 //!
 //! ```
 //! use kipawnore::{Configuration, MOST_BYTES, Refusal, Voice};
