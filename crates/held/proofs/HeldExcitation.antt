@@ -14,8 +14,10 @@ use Rattle.pulse.specs.Train.{voiced, pulseOf}
 use Rattle.delay.specs.Line.{middle, withNoise, withPulse, shifted}
 use Rattle.excitation.specs.Excitation.{Excitation, following, pulseAlone, noiseAlone, plainStep, mixedLine, mixed, mixedStep, stepOf}
 use Rattle.held.specs.Held.{Holds, AllHeld, HeldPulse}
-use Rattle.held.proofs.HeldLists.{either, zero-held, held-at, held-drop, held-append, held-set}
-use Rattle.held.proofs.HeldSources.{Made, HeldNoise, pulse-held, after-held, noise-held}
+use Rattle.held.proofs.OutcomesKeep.{either}
+use Rattle.held.proofs.NoiseKeeps.{Made}
+use Rattle.held.proofs.HeldLists.{zero-held, held-at, held-drop, held-append, held-set}
+use Rattle.held.proofs.HeldSources.{HeldNoise, pulse-held, after-held, noise-held}
 
 -- ---- the line
 

@@ -14,7 +14,8 @@ use Rattle.filter.specs.NonZero as otherStages
 use Rattle.configuration.specs.declared.Configuration.{Configuration}
 use Rattle.drawing.specs.Step.{Filters, turnZero, turnNonzero, turnOf}
 use Rattle.held.specs.Held.{Holds, AllHeld, HeldTaps}
-use Rattle.held.proofs.HeldLists.{either, held-plus}
+use Rattle.held.proofs.OutcomesKeep.{either}
+use Rattle.held.proofs.HeldLists.{held-plus}
 use Rattle.held.proofs.HeldZero.{zero-stage}
 use Rattle.held.proofs.HeldStages.{stages-held}
 

@@ -22,8 +22,9 @@ use Rattle.giving.specs.Pitch.{pitchOf}
 use Rattle.giving.specs.Begin.{incrementsOf}
 use Rattle.giving.specs.Give.{prepared, begun, begunWith, given}
 use Rattle.held.specs.Held.{Holds, AllHeld, HeldPulse, Held, HeldFrame}
-use Rattle.held.proofs.HeldLists.{either, zero-held, held-take, held-front}
-use Rattle.held.proofs.HeldSpectrum.{Inside, HeldSpectra, prepared-held}
+use Rattle.held.proofs.OutcomesKeep.{either, Inside, Both}
+use Rattle.held.proofs.HeldLists.{zero-held, held-take, held-front}
+use Rattle.held.proofs.HeldSpectrum.{prepared-held}
 
 -- the period is a quotient, or 0
 period-held : (c : Configuration) (lf0 : Float) → Holds (periodOf (pitchOf c lf0))
@@ -49,7 +50,7 @@ increments-held n (t ∷ targets) [] = tt
 increments-held n (t ∷ targets) (s ∷ start) = (div-fits binary64 (t ⊖ s) (ofInt binary64 (pos n)), increments-held n targets start)
 
 module _ (f : Frame) (v : Voice) (k : HeldFrame f) (h : Held v) where
-  begun-held : (p : Spectra) → HeldSpectra p → Held (begun f p v)
+  begun-held : (p : Spectra) → Both AllHeld p → Held (begun f p v)
   unfolding begun
   begun-held p s =
       let c = v .configuration in
@@ -67,7 +68,7 @@ module _ (f : Frame) (v : Voice) (k : HeldFrame f) (h : Held v) where
         nonzero = h .nonzero;
       }
 
-  with-outcome : (o : Outcome Spectra) → Inside HeldSpectra o → Held (begunWith f v o)
+  with-outcome : (o : Outcome Spectra) → Inside (Both AllHeld) o → Held (begunWith f v o)
   with-outcome outside s = h
   with-outcome (inside p) s = begun-held p s
 

@@ -1,5 +1,4 @@
 -- Lists of f64s: entries, parts, and lists made of others. Assumes nothing.
-use mathlib.Core.Bool.{Bool, true, false, cond}
 use mathlib.Core.List.{List, [], _∷_, _++_, map}
 use Prim.Native.Nat.{ℕ, zero, suc, _-_}
 use lib.ListN.{length, take, drop, set, replicate}
@@ -11,11 +10,6 @@ use Rattle.number.specs.Lists.{row, putRow}
 use Rattle.vectors.specs.Vectors.{timesFrom, plus}
 use Rattle.voice.specs.Voice.{inFront}
 use Rattle.held.specs.Held.{Holds, AllHeld}
-
--- what holds of both holds of either
-pub either : {A : Type 0} (P : A → Type 0) (b : Bool) (x y : A) → P x → P y → P (cond b x y)
-either P true x y h k = h
-either P false x y h k = k
 
 -- ---- entries
 

@@ -2,7 +2,6 @@
 use mathlib.Core.Bool.{Bool, cond}
 use mathlib.Core.List.{List, [], _∷_, map}
 use Prim.Native.Nat.{ℕ, _-_}
-use lib.Dec.{eqb}
 use lib.ListN.{length, drop, set}
 use lib.Ieee.{Float, binary64, eq, ne}
 use lib.Ieee.Bits.{ofBits-fits}
@@ -10,7 +9,7 @@ use lib.Ieee.Fits.{cond-fits, add-fits, sub-fits, div-fits}
 use Rattle.number.specs.F64.{_⊕_, _⊖_, _⊗_, _⊘_, _‼_, 0f, 1f, 2f}
 use Rattle.elementary.specs.declared.answer.Answer.{Answer}
 use Rattle.elementary.specs.declared.answer.Answer.the-variants as answer
-use Rattle.elementary.specs.Outcome.{Outcome, outside, inside, _then_, ofAnswer}
+use Rattle.elementary.specs.Outcome.{inside, _then_, ofAnswer}
 use Rattle.elementary.specs.Exact.{powerInside}
 use Rattle.logarithm.specs.Ln.{lnOf}
 use Rattle.power.specs.Power.{products, inversePowerOf}
@@ -21,28 +20,12 @@ use Rattle.lsp.specs.Lsp.{lsp2mgcOf}
 use Rattle.stability.specs.Stability.{stableOf}
 use Rattle.postfilter.specs.Mel.{acts, sharpenedOf, filteredMcp, postfilterMcpOf}
 use Rattle.postfilter.specs.Pairs.{postfilterLspOf}
-use Rattle.prepare.specs.Preparing.{Spectra, both, startIf, targetsMcp, preparedMcp, coefficientsOf, targetsLsp, preparedLsp}
+use Rattle.prepare.specs.Preparing.{targetsMcp, coefficientsOf, targetsLsp}
 use Rattle.configuration.specs.declared.Configuration.{Configuration}
 use Rattle.giving.specs.Begin.{preparedFor}
 use Rattle.held.specs.Held.{Holds, AllHeld}
-use Rattle.held.proofs.HeldLists.{either, held-take, held-set, held-map, held-times}
-
--- ---- outcomes
-
--- what is made, where it is inside, is such
-abbrev pub Inside : {A : Type 0} → (A → Type 0) → Outcome A → Type 0
-Inside P outside = Unit {0}
-Inside P (inside a) = P a
-
-module _ {A B : Type 0} (Q : B → Type 0) where
-  then-held : (P : A → Type 0) (o : Outcome A) (next : A → Outcome B) → Inside P o → ((a : A) → P a → Inside Q (next a)) → Inside Q (o then next)
-  then-held P outside next h k = tt
-  then-held P (inside a) next h k = k a h
-
-  -- whatever came before
-  then-any : (o : Outcome A) (next : A → Outcome B) → ((a : A) → Inside Q (next a)) → Inside Q (o then next)
-  then-any outside next k = tt
-  then-any (inside a) next k = k a
+use Rattle.held.proofs.OutcomesKeep.{either, Inside, then-such, then-any, Both, prepared-such}
+use Rattle.held.proofs.HeldLists.{held-take, held-set, held-map, held-times}
 
 -- ---- stage 0
 
@@ -92,7 +75,7 @@ module _ (alpha : Float) where
 
     targets-mcp : (c : List Float) → AllHeld c → Inside AllHeld (targetsMcp alpha beta c)
     unfolding targetsMcp
-    targets-mcp c h = then-held AllHeld AllHeld (postfilterMcpOf alpha beta c) (λ t. inside (mc2bOf alpha t)) (postfilter-held c h) mc2b-held
+    targets-mcp c h = then-such AllHeld AllHeld (postfilterMcpOf alpha beta c) (λ t. inside (mc2bOf alpha t)) (postfilter-held c h) mc2b-held
 
 -- ---- stage 1 or more: all is made by operations
 
@@ -107,7 +90,7 @@ gnorm-held : (s : ℕ) (c : List Float) → Inside AllHeld (gnormOf s c)
 unfolding gnormOf
 gnorm-held s c =
     let k = 1f ⊕ gammaOf s ⊗ c ‼ 0 in
-    then-held AllHeld Holds (ofAnswer (inversePowerOf k s)) (λ gain. inside (gain ∷ map (λ x. x ⊘ k) (drop 1 c))) (power-held k s)
+    then-such AllHeld Holds (ofAnswer (inversePowerOf k s)) (λ gain. inside (gain ∷ map (λ x. x ⊘ k) (drop 1 c))) (power-held k s)
     (λ gain h. (h, held-map (λ x. x ⊘ k) (λ x. div-fits binary64 x k) (drop 1 c)))
 
 module _ (alpha : Float) (log : Bool) (s : ℕ) where
@@ -115,7 +98,7 @@ module _ (alpha : Float) (log : Bool) (s : ℕ) where
   unfolding coefficientsOf
   coefficients-held lsp =
       then-any AllHeld (lsp2mgcOf log s lsp) (λ mgc. gnormOf s (mc2bOf alpha mgc) then λ b. inside (timesFrom 1 (gammaOf s) b))
-      (λ mgc. then-held AllHeld AllHeld (gnormOf s (mc2bOf alpha mgc)) (λ b. inside (timesFrom 1 (gammaOf s) b)) (gnorm-held s (mc2bOf alpha mgc))
+      (λ mgc. then-such AllHeld AllHeld (gnormOf s (mc2bOf alpha mgc)) (λ b. inside (timesFrom 1 (gammaOf s) b)) (gnorm-held s (mc2bOf alpha mgc))
       (λ b h. held-times 1 (gammaOf s) b (held-take 1 b h)))
 
   targets-lsp : (beta : Float) (lsp : List Float) → Inside AllHeld (targetsLsp alpha beta log s lsp)
@@ -124,26 +107,8 @@ module _ (alpha : Float) (log : Bool) (s : ℕ) where
 
 -- ---- a frame
 
-pub record HeldSpectra (p : Spectra) : Type 0 where
-  pub start : AllHeld (p .start)
-  pub targets : AllHeld (p .targets)
-
-both-held : (a b : Outcome (List Float)) → Inside AllHeld a → Inside AllHeld b → Inside HeldSpectra (both a b)
-both-held outside b h k = tt
-both-held (inside s) outside h k = tt
-both-held (inside s) (inside t) h k = record { start = h; targets = k }
-
-started-held : (first : Bool) (a : Outcome (List Float)) (now : List Float) → Inside AllHeld a → AllHeld now → Inside AllHeld (startIf first a now)
-started-held first a now h k = either (Inside AllHeld) first a (inside now) h k
-
-pub prepared-held : (c : Configuration) (first : Bool) (now spectrum : List Float) → AllHeld now → AllHeld spectrum → Inside HeldSpectra (preparedFor c first now spectrum)
-unfolding preparedFor preparedMcp preparedLsp
+pub prepared-held : (c : Configuration) (first : Bool) (now spectrum : List Float) → AllHeld now → AllHeld spectrum → Inside (Both AllHeld) (preparedFor c first now spectrum)
 prepared-held c first now spectrum h k =
     let alpha = c .alpha in
-    let start = coefficientsOf alpha (c .log) (c .stage) spectrum in
-    let mel = inside (mc2bOf alpha spectrum) in
-    either (Inside HeldSpectra) (eqb (c .stage) 0)
-    (preparedMcp alpha (c .beta) first now spectrum)
-    (preparedLsp alpha (c .beta) (c .log) (c .stage) first now spectrum)
-    (both-held (startIf first mel now) (targetsMcp alpha (c .beta) spectrum) (started-held first mel now (mc2b-held alpha spectrum k) h) (targets-mcp alpha (c .beta) spectrum k))
-    (both-held (startIf first start now) (targetsLsp alpha (c .beta) (c .log) (c .stage) spectrum) (started-held first start now (coefficients-held alpha (c .log) (c .stage) spectrum) h) (targets-lsp alpha (c .log) (c .stage) (c .beta) spectrum))
+    prepared-such AllHeld c first now spectrum h (mc2b-held alpha spectrum k) (targets-mcp alpha (c .beta) spectrum k)
+    (coefficients-held alpha (c .log) (c .stage) spectrum) (targets-lsp alpha (c .log) (c .stage) (c .beta) spectrum)

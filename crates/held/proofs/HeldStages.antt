@@ -1,13 +1,15 @@
 -- A sample through the filter of the stages from 1 on: its taps stay f64s. Assumes nothing.
 use mathlib.Core.List.{List, [], _∷_}
 use Prim.Native.Nat.{ℕ, zero, suc, _+_, _-_, _*_}
+use native.Mathlib.Omega.{arith}
 use lib.ListN.{length}
 use lib.Ieee.{Float, binary64}
 use lib.Ieee.Fits.{add-fits}
 use Rattle.number.specs.F64.{_⊕_, _⊖_, _⊗_, _‼_, 1f}
 use Rattle.number.specs.Lists.{row}
-use Rattle.mglsa.specs.Mglsa.{Passed, passed, warpAt, warps, warped, pushed, dffOf, stageOf, stagesFrom, dfOf}
+use Rattle.mglsa.specs.Mglsa.{Passed, passed, warpAt, warps, warped, pushed, dffOf, stageOf, dfOf}
 use Rattle.held.specs.Held.{Holds, AllHeld}
+use Rattle.held.proofs.FiltersKeep.{stages-keep}
 use Rattle.held.proofs.HeldLists.{held-set, held-row, held-put}
 
 pushed-held : (first : Float) (d : List Float) → Holds first → AllHeld d → AllHeld (pushed first d)
@@ -46,11 +48,6 @@ module _ (alpha : Float) (c : List Float) where
       let p = passed (row from to (s .d)) (s .x) in
       held-put from to (dffOf alpha c p .d) (s .d) (one-stage p (held-row from to (s .d) h)) h
 
-  stages-from : (n i : ℕ) (s : Passed) → AllHeld (s .d) → AllHeld (stagesFrom alpha c n i s .d)
-  unfolding stagesFrom
-  stages-from zero i s h = h
-  stages-from (suc n) i s h = stages-from n (i + 1) (stageOf alpha c i s) (stage-held i s h)
-
   pub stages-held : (stages : ℕ) (d : List Float) (x : Float) → AllHeld d → AllHeld (dfOf alpha stages c d x .state)
   unfolding dfOf
-  stages-held stages d x h = stages-from stages 0 (passed d x) h
+  stages-held stages d x h = stages-keep alpha c stages AllHeld (λ i s _. stage-held i s) stages 0 (passed d x) (omega arith) h

@@ -10,8 +10,10 @@ use Rattle.excitation.specs.Excitation.{Excitation, stepOf}
 use Rattle.voice.specs.declared.Voice.{Voice}
 use Rattle.drawing.specs.Step.{Filters, tapsOf, incrementsOf, excitationOf, filtersOf, soundOf, withSound, counted, closed, closedAtEnd, turnOf, soundStep, stepped, step}
 use Rattle.held.specs.Held.{Holds, Held}
-use Rattle.held.proofs.HeldLists.{either, held-take, held-front}
-use Rattle.held.proofs.HeldSources.{Made, end-held}
+use Rattle.held.proofs.OutcomesKeep.{either}
+use Rattle.held.proofs.NoiseKeeps.{Made}
+use Rattle.held.proofs.HeldLists.{held-take, held-front}
+use Rattle.held.proofs.HeldSources.{end-held}
 use Rattle.held.proofs.HeldExcitation.{HeldExcitation, HeldSample, sample-held}
 use Rattle.held.proofs.HeldFilters.{HeldFilters, turn-held}
 

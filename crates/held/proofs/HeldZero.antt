@@ -1,69 +1,25 @@
 -- A sample through the filter of stage 0: its taps stay f64s. Assumes nothing.
 use mathlib.Core.Bool.{cond}
 use mathlib.Core.List.{List}
-use Prim.Native.Nat.{ℕ, zero, suc, _+_, _-_, _*_, _/_, _%_}
+use Prim.Native.Nat.{ℕ, _+_, _-_, _*_, _%_}
 use lib.Dec.{eqb}
-use lib.ListN.{length, set}
+use lib.ListN.{length}
 use lib.Ieee.{Float, binary64}
 use lib.Ieee.Fits.{add-fits, mul-fits}
 use Rattle.number.specs.F64.{_⊕_, _⊖_, _⊗_, −_, _‼_, 0f, 1f}
 use Rattle.number.specs.Lists.{row}
-use Rattle.fir.specs.Fir.{Taps, start, group, tap, groups, singles, taps, firOf}
+use Rattle.fir.specs.Fir.{start, taps, firOf}
 use Rattle.mlsa.specs.declared.Sums.{Sums}
 use Rattle.mlsa.specs.declared.MelLogSpectrumApproximation.{MelLogSpectrumApproximation}
 use Rattle.mlsa.specs.Mlsa as mlsa
 use Rattle.mlsa.specs.Mlsa.{Part, ppade, weighed, firstRow, secondRow, downward, passing, df1Of, df2Of}
 use Rattle.held.specs.Held.{Holds, AllHeld, HeldTaps}
+use Rattle.held.proofs.FiltersKeep.{fir-keeps, rows-keep}
 use Rattle.held.proofs.HeldLists.{held-set, held-row, held-put}
 
--- ---- `fir`: every tap that it stores is a sum
-
-sum-stored : (l : List Float) (i : ℕ) (x y : Float) → AllHeld l → AllHeld (set l i (x ⊕ y))
-sum-stored l i x y h = held-set l i (x ⊕ y) (add-fits binary64 x y) h
-
-module _ (a : Float) (c : List Float) where
-  start-held : (x : Float) (d : List Float) → AllHeld d → AllHeld (start a x d .d)
-  start-held x d h = sum-stored (set d 0 (a ⊗ x)) 1 ((1f ⊖ a ⊗ a) ⊗ x) (a ⊗ d ‼ 1) (held-set d 0 (a ⊗ x) (mul-fits binary64 a x) h)
-
-  group-held : (i : ℕ) (t : Taps) → AllHeld (t .d) → AllHeld (group a c i t .d)
-  group-held i t h =
-      let aa = a ⊗ a in
-      let rem = t .on .rem in
-      let d0 = t .d ‼ i in
-      let d1 = t .d ‼ (i + 1) in
-      let d2 = t .d ‼ (i + 2) in
-      let d3 = t .d ‼ (i + 3) in
-      let m0 = (1f ⊖ aa) ⊗ rem in
-      let m1 = (1f ⊖ aa) ⊗ (− a ⊗ rem ⊕ d0) in
-      let m2 = (1f ⊖ aa) ⊗ (aa ⊗ rem ⊕ (− a ⊗ d0 ⊕ d1)) in
-      let m3 = (1f ⊖ aa) ⊗ (aa ⊗ (− a ⊗ rem ⊕ d0) ⊕ (− a ⊗ d1 ⊕ d2)) in
-      let e0 = sum-stored (t .d) i m0 (a ⊗ d0) h in
-      let e1 = sum-stored (set (t .d) i (m0 ⊕ a ⊗ d0)) (i + 1) m1 (a ⊗ d1) e0 in
-      let e2 = sum-stored (set (set (t .d) i (m0 ⊕ a ⊗ d0)) (i + 1) (m1 ⊕ a ⊗ d1)) (i + 2) m2 (a ⊗ d2) e1 in
-      sum-stored (set (set (set (t .d) i (m0 ⊕ a ⊗ d0)) (i + 1) (m1 ⊕ a ⊗ d1)) (i + 2) (m2 ⊕ a ⊗ d2)) (i + 3) m3 (a ⊗ d3) e2
-
-  tap-held : (i : ℕ) (t : Taps) → AllHeld (t .d) → AllHeld (tap a c i t .d)
-  tap-held i t h = sum-stored (t .d) i ((1f ⊖ a ⊗ a) ⊗ t .on .rem) (a ⊗ t .d ‼ i) h
-
-  groups-held : (n i : ℕ) (t : Taps) → AllHeld (t .d) → AllHeld (groups a c n i t .d)
-  unfolding groups
-  groups-held zero i t h = h
-  groups-held (suc n) i t h = groups-held n (i + 4) (group a c i t) (group-held i t h)
-
-  singles-held : (n i : ℕ) (t : Taps) → AllHeld (t .d) → AllHeld (singles a c n i t .d)
-  unfolding singles
-  singles-held zero i t h = h
-  singles-held (suc n) i t h = singles-held n (i + 1) (tap a c i t) (tap-held i t h)
-
-  taps-held : (n i : ℕ) (t : Taps) → AllHeld (t .d) → AllHeld (taps a c n i t .d)
-  unfolding taps
-  taps-held n i t h = singles-held (n % 4) (i + n / 4 * 4) (groups a c (n / 4) i t) (groups-held (n / 4) i t h)
-
-  fir-held : (x : Float) (d : List Float) → AllHeld d → AllHeld (firOf a x c d .d) × Holds (firOf a x c d .y)
-  unfolding firOf
-  fir-held x d h = let all = taps a c (length d - 2) 2 (start a x d) in (taps-held (length d - 2) 2 (start a x d) (start-held x d h), add-fits binary64 (all .on .y0) (all .on .y1))
-
--- ---- stage 0
+fir-held : (a : Float) (c : List Float) (x : Float) (d : List Float) → AllHeld d → AllHeld (firOf a x c d .d) × Holds (firOf a x c d .y)
+unfolding firOf
+fir-held a c x d h = let all = taps a c (length d - 2) 2 (start a x d) in (fir-keeps AllHeld held-set a c x d h, add-fits binary64 (all .on .y0) (all .on .y1))
 
 record HeldPart (p : Part) : Type 0 where
   pub d1 : AllHeld (p .d1)
@@ -100,11 +56,6 @@ module _ (alpha : Float) (c : List Float) where
         x = weighed-held i (f .y) (p .sums);
       }
 
-downward-held : (one : ℕ → Part → Part) → ((i : ℕ) (p : Part) → HeldPart p → HeldPart (one i p)) → (i : ℕ) (p : Part) → HeldPart p → HeldPart (downward one i p)
-unfolding downward
-downward-held one k zero p h = h
-downward-held one k (suc i) p h = downward-held one k i (one (suc i) p) (k (suc i) p h)
-
 record HeldPassed (p : mlsa.Passed) : Type 0 where
   pub d1 : AllHeld (p .d1)
   pub d2 : AllHeld (p .d2)
@@ -114,7 +65,7 @@ passing-held : (one : ℕ → Part → Part) → ((i : ℕ) (p : Part) → HeldP
     → HeldPassed (passing one d1 d2 x)
 passing-held one k d1 d2 x h1 h2 hx =
     let p = downward one 5 (mlsa.part d1 d2 (record { x = x; out = 0f })) in
-    let h : HeldPart p = downward-held one k 5 (mlsa.part d1 d2 (record { x = x; out = 0f })) (record { d1 = h1; d2 = h2; x = hx }) in
+    let h : HeldPart p = rows-keep HeldPart one (λ i q _. k i q) d1 d2 x (record { d1 = h1; d2 = h2; x = hx }) in
     record { d1 = h .d1; d2 = held-set (p .d2) 0 (p .sums .x) (h .x) (h .d2); x = add-fits binary64 (p .sums .x) (p .sums .out) }
 
 pub zero-stage : (alpha : Float) (c : List Float) (f : MelLogSpectrumApproximation) (x : Float) → HeldTaps f → Holds x → HeldTaps (mlsa.dfOf alpha c f x .state)

@@ -1,3 +1,6 @@
+pub mod OutcomesKeep
+pub mod FiltersKeep
+pub mod NoiseKeeps
 pub mod HeldLists
 pub mod HeldFresh
 pub mod HeldSources

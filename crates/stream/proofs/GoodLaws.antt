@@ -25,6 +25,7 @@ use Rattle.giving.specs.Give.{prepared, refusal, begun, begunWith, given}
 use Rattle.drawing.specs.Step.{step}
 use Rattle.whole.proofs.Demand2.{still-usable, earlier-none}
 use Rattle.held.specs.Held.{Holds, AllHeld, HeldConfiguration, HeldTaps, Held, HeldFrame}
+use Rattle.held.proofs.OutcomesKeep.{either}
 use Rattle.held.proofs.HeldLists.{held-front, held-zeros}
 use Rattle.held.proofs.HeldFresh.{fresh-held}
 use Rattle.held.proofs.HeldGive.{given-held}
@@ -34,7 +35,6 @@ use Rattle.slots.specs.Slots.{floatsAt, arrayAt, configurationIn, pulseIn, rand
 use Rattle.trips.proofs.AgainLaws.{usable-in, long-in, clean-in}
 use Rattle.rest.specs.Rest.{recordCount, slotsIn, accepted}
 use Rattle.rest.proofs.RestLaws.{accepts-of}
-use Rattle.stream.proofs.PartLaws.{either}
 use Rattle.stream.proofs.UsableLaws.{fresh-usable, step-usable}
 use Rattle.stream.proofs.LongLaws.{fresh-long, given-long, step-long}
 use Rattle.stream.proofs.CleanLaws.{fresh-clean, given-clean, step-clean}

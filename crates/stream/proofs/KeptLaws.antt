@@ -12,10 +12,12 @@ use Rattle.refusing.proofs.EarlierLaws.{Fits, fits-of, sizes-of}
 use Rattle.giving.specs.Begin.{incrementsOf}
 use Rattle.giving.specs.Give.{prepared, begun, begunWith, given}
 use Rattle.giving.proofs.BeginLaws.{length-increments}
+use Rattle.held.proofs.OutcomesKeep.{Inside, Both}
 use Rattle.slots.proofs.CountLaws.{Long}
 use Rattle.stream.proofs.PastLaws.{Past, past-same, past-front}
 use Rattle.stream.proofs.FilterLaws.{SameRows, same-rows}
-use Rattle.stream.proofs.SpectrumLaws.{Entries, Prepared, prepared-of}
+use Rattle.stream.proofs.MelLaws.{Has}
+use Rattle.stream.proofs.SpectrumLaws.{prepared-of}
 
 pub record Kept (v t : Voice) : Type 0 where
   pub configuration : t .configuration ≡ v .configuration
@@ -44,7 +46,7 @@ kept-same v =
 -- ---- A FRAME
 
 module _ (f : Frame) (v : Voice) (long : Long v) (fits : Fits f v) where
-  begun-kept : (p : Spectra) → Entries (v .configuration .nmcp) p → Kept v (begun f p v)
+  begun-kept : (p : Spectra) → Both (Has (v .configuration .nmcp)) p → Kept v (begun f p v)
   unfolding begun
   begun-kept p n =
       let c = v .configuration in
@@ -62,17 +64,17 @@ module _ (f : Frame) (v : Voice) (long : Long v) (fits : Fits f v) where
         filters = same-rows c (v .zero) (v .nonzero .d);
       }
 
-  with-outcome : (o : Outcome Spectra) → Prepared (v .configuration .nmcp) o → Kept v (begunWith f v o)
+  with-outcome : (o : Outcome Spectra) → Inside (Both (Has (v .configuration .nmcp))) o → Kept v (begunWith f v o)
   with-outcome outside h = kept-same v
   with-outcome (inside p) h = begun-kept p h
 
-  entries-prepared : Prepared (v .configuration .nmcp) (prepared f v)
+  entries-prepared : Inside (Both (Has (v .configuration .nmcp))) (prepared f v)
   unfolding prepared
   entries-prepared =
       let c = v .configuration in
       let few = sizes-of f v fits in
       let now : length (take (c .nmcp) (v .coefficients)) ≡ c .nmcp = length-take-le (c .nmcp) (v .coefficients) (omega (arith, few .nmcp-most, long .coefficients)) in
-      subst (λ (n : ℕ). Prepared n (prepared f v)) (fits .entries)
+      subst (λ (n : ℕ). Inside (Both (Has n)) (prepared f v)) (fits .entries)
       (prepared-of c (v .first) (take (c .nmcp) (v .coefficients)) (f .spectrum) (omega (arith, few .nmcp-least, fits .entries)) (now ∙ sym (fits .entries)))
 
 pub given-keeps : (f : Frame) (v : Voice) → Long v → earlier f v ≡ 0 → Kept v (given f v)

@@ -6,27 +6,17 @@ use native.Mathlib.Omega.{arith}
 use lib.ListN.{length, set, length-set, length-append, length-take, length-drop, length-map}
 use lib.Ieee.{Float, ne}
 use Rattle.number.specs.F64.{_⊕_, _⊘_, _‼_, 0f, 1f, 2f}
-use Rattle.elementary.specs.Outcome.{Outcome, outside, inside, _then_, ofAnswer}
+use Rattle.elementary.specs.Outcome.{inside, ofAnswer}
 use Rattle.logarithm.specs.Ln.{lnOf}
 use Rattle.vectors.specs.Vectors.{timesFrom}
 use Rattle.cepstrum.specs.Cepstrum.{unwarped, mc2bOf, b2mcOf, b2enOf}
 use Rattle.postfilter.specs.Mel.{acts, sharpenedOf, filteredMcp, postfilterMcpOf}
 use Rattle.prepare.specs.Preparing.{targetsMcp}
-use Rattle.stream.proofs.PartLaws.{either}
+use Rattle.held.proofs.OutcomesKeep.{either, Inside, then-such, then-any}
 
--- n entries, where it is inside
-abbrev pub Of : ℕ → Outcome (List Float) → Type 0
-Of n outside = Unit {0}
-Of n (inside l) = length l ≡ n
-
-pub then-of : (n m : ℕ) (o : Outcome (List Float)) (next : List Float → Outcome (List Float)) → Of n o → ((l : List Float) → length l ≡ n → Of m (next l)) → Of m (o then next)
-then-of n m outside next h k = tt
-then-of n m (inside l) next h k = k l h
-
--- whatever came before
-pub then-any : {A : Type 0} (n : ℕ) (o : Outcome A) (next : A → Outcome (List Float)) → ((a : A) → Of n (next a)) → Of n (o then next)
-then-any n outside next k = tt
-then-any n (inside a) next k = k a
+-- n entries
+abbrev pub Has : ℕ → List Float → Type 0
+Has n l = length l ≡ n
 
 pub length-times : (j : ℕ) (k : Float) (l : List Float) → length (timesFrom j k l) ≡ length l
 unfolding timesFrom
@@ -52,17 +42,17 @@ module _ (alpha : Float) where
     unfolding sharpenedOf
     length-sharpened b = length-times 2 (1f ⊕ beta) _ ∙ length-set b 1 _
 
-    filtered-of : (c : List Float) → Of (length c) (filteredMcp alpha beta c)
+    filtered-of : (c : List Float) → Inside (Has (length c)) (filteredMcp alpha beta c)
     unfolding filteredMcp
     filtered-of c =
         let b = mc2bOf alpha c in
         let t = sharpenedOf alpha beta b in
-        then-any (length c) (ofAnswer (lnOf (b2enOf alpha b ⊘ b2enOf alpha t))) (λ y. inside (b2mcOf alpha (set t 0 (t ‼ 0 ⊕ y ⊘ 2f))))
+        then-any (Has (length c)) (ofAnswer (lnOf (b2enOf alpha b ⊘ b2enOf alpha t))) (λ y. inside (b2mcOf alpha (set t 0 (t ‼ 0 ⊕ y ⊘ 2f))))
         (λ y. length-b2mc (set t 0 (t ‼ 0 ⊕ y ⊘ 2f)) ∙ length-set t 0 (t ‼ 0 ⊕ y ⊘ 2f) ∙ length-sharpened b ∙ length-mc2b c)
 
-    pub targets-mcp : (c : List Float) → Of (length c) (targetsMcp alpha beta c)
+    pub targets-mcp : (c : List Float) → Inside (Has (length c)) (targetsMcp alpha beta c)
     unfolding targetsMcp postfilterMcpOf
     targets-mcp c =
-        then-of (length c) (length c) (postfilterMcpOf alpha beta c) (λ t. inside (mc2bOf alpha t))
-        (either (Of (length c)) (acts beta (length c)) (filteredMcp alpha beta c) (inside c) (filtered-of c) refl)
+        then-such (Has (length c)) (Has (length c)) (postfilterMcpOf alpha beta c) (λ t. inside (mc2bOf alpha t))
+        (either (Inside (Has (length c))) (acts beta (length c)) (filteredMcp alpha beta c) (inside c) (filtered-of c) refl)
         (λ t h. length-mc2b t ∙ h)

@@ -3,17 +3,19 @@ use mathlib.Core.Path.{_≡_}
 use mathlib.Core.List.{List}
 use Prim.Native.Nat.{ℕ, zero, suc, _^_, _<_}
 use native.Mathlib.Nat.{mod-lt}
-use lib.Dec.{lit<, ltb}
+use lib.Dec.{lit<}
 use lib.Ieee.{Float}
-use Rattle.history.specs.Steps.{Step, dry, one, steps, onward}
+use Rattle.history.specs.Steps.{one}
 use Rattle.noise.specs.declared.Random.{Random}
 use Rattle.noise.specs.Draw.{tryOf, accepted}
-use Rattle.noise.specs.Noise.{foundOf, pairStep, pairOf, concat, fillingOf, takeFrom, takeFirst, noiseOf}
+use Rattle.noise.specs.Noise.{foundOf, pairStep, pairOf, noiseOf}
 use Rattle.noise.specs.declared.pair.Found.the-variants as found
 use Rattle.excitation.specs.Excitation.{Excitation}
 use Rattle.voice.specs.declared.Voice.{Voice}
 use Rattle.drawing.specs.Step.{tapsOf, excitationOf, step}
-use Rattle.stream.proofs.PartLaws.{After, either, at-end, turned, after, after-step, noise-after}
+use Rattle.held.proofs.OutcomesKeep.{either}
+use Rattle.held.proofs.NoiseKeeps.{Made, noise-such}
+use Rattle.stream.proofs.PartLaws.{After, after-made, at-end, turned, after, after-step, noise-after}
 
 abbrev pub Below : ℕ → Type 0
 Below n = n < 2 ^ 64
@@ -22,42 +24,26 @@ try-below : (next : ℕ) → Below (tryOf next .next)
 unfolding tryOf
 try-below next = mod-lt _ (lit< tt)
 
-pair-below : (bound next : ℕ) → After Below (pairStep (foundOf bound next))
+-- whatever the values are
+abbrev Any : List Float → Type 0
+Any l = Unit {0}
+
+pair-below : (bound next : ℕ) → Made Any Below (pairStep (foundOf bound next))
 unfolding foundOf
 pair-below zero next = tt
 pair-below (suc bound) next =
     let t = tryOf next in
-    either (λ f. After Below (pairStep f)) (accepted t) (found.Pair t) (foundOf bound (t .next)) (try-below next) (pair-below bound (t .next))
+    either (λ f. Made Any Below (pairStep f)) (accepted t) (found.Pair t) (foundOf bound (t .next)) (tt, try-below next) (pair-below bound (t .next))
 
 module _ (bound : ℕ) where
-  one-pair : (next : ℕ) → After Below (pairOf bound next)
+  one-pair : (next : ℕ) → Made Any Below (pairOf bound next)
   unfolding pairOf
   one-pair next = pair-below bound next
 
-  pairs-below : (n next : ℕ) → Below next → Below (steps (pairOf bound) n next .state)
-  unfolding steps
-  pairs-below zero next h = h
-  pairs-below (suc n) next h = go (pairs-below n) (pairOf bound next) (one-pair next)
-    where
-      go : ((m : ℕ) → Below m → Below (steps (pairOf bound) n m .state)) → (t : Step ℕ (List Float)) → After Below t → Below (onward t next (steps (pairOf bound) n) .state)
-      go ih dry k = h
-      go ih (one xs m) k = ih m k
-
-  filling-below : (next : ℕ) → Below next → After Below (fillingOf bound next)
-  unfolding fillingOf
-  filling-below next h =
-      let run = steps (pairOf bound) 32 next in
-      either (After Below) (run .isDry) dry (one (concat (run .made)) (run .state)) tt (pairs-below 32 next h)
-
-  first-below : (t : Step ℕ (List Float)) → After Below t → After (λ (r : Random). Below (r .next)) (takeFirst t)
-  first-below dry h = tt
-  first-below (one queue next) h = h
-
   noise-below : (z : Random) → Below (z .next) → After (λ (r : Random). Below (r .next)) (noiseOf bound z)
-  unfolding noiseOf
   noise-below z h =
-      either (After (λ (r : Random). Below (r .next))) (ltb (z .used) 64) (takeFrom z) (takeFirst (fillingOf bound (z .next)))
-      h (first-below (fillingOf bound (z .next)) (filling-below (z .next) h))
+      after-made (λ (x : Float). Unit {0}) (λ (r : Random). Below (r .next)) (noiseOf bound z)
+      (noise-such bound Any (λ (n : ℕ). Any) Below one-pair tt (λ n l m a b. tt) (λ (x : Float). Unit {0}) (λ (r : Random). Below (r .next)) (λ queue next k u. (tt, u)) z h (tt, h))
 
   pub step-next : (v t : Voice) (x : Float) → Below (v .random .next) → step bound v ≡ one x t → Below (t .random .next)
   step-next v t x h e =

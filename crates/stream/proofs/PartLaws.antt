@@ -1,6 +1,6 @@
 -- A sample taken apart: the excitation that it comes from, and the voice that is made of it. Assumes nothing.
 use mathlib.Core.Path.{_≡_, refl, subst}
-use mathlib.Core.Bool.{Bool, true, false, cond}
+use mathlib.Core.Bool.{Bool, true, false}
 use Prim.Native.Nat.{ℕ, _≤_}
 use mathlib.Core.List.{List}
 use native.Mathlib.Omega.{arith}
@@ -16,16 +16,17 @@ use Rattle.pulse.specs.Train.{voiced}
 use Rattle.excitation.specs.Excitation.{Excitation, following, pulseAlone, noiseAlone, plainStep, mixed, mixedStep, stepOf}
 use Rattle.voice.specs.declared.Voice.{Voice}
 use Rattle.drawing.specs.Step.{tapsOf, incrementsOf, excitationOf, filtersOf, withSound, counted, closed, closedAtEnd, turnOf, stepped, step}
+use Rattle.held.proofs.OutcomesKeep.{either}
+use Rattle.held.proofs.NoiseKeeps.{Made}
 
 -- the state after a step is such, where there is one
 abbrev pub After : {State Sample : Type 0} → (State → Type 0) → Step State Sample → Type 0
 After P dry = Unit {0}
 After P (one x s) = P s
 
--- what holds of both holds of either
-pub either : {A : Type 0} (P : A → Type 0) (b : Bool) (x y : A) → P x → P y → P (cond b x y)
-either P true x y h k = h
-either P false x y h k = k
+pub after-made : {State Sample : Type 0} (P : Sample → Type 0) (Q : State → Type 0) (t : Step State Sample) → Made P Q t → After Q t
+after-made P Q dry h = tt
+after-made P Q (one x s) h = h .1
 
 -- ---- the voice
 

@@ -16,11 +16,11 @@ use Rattle.voice.specs.Voice.{acceptable, mostMeter}
 use Rattle.voice.proofs.IdleLaws.{kept-of, total-of, used-of}
 use borrow.Author.Tests.{leb-true}
 use Rattle.held.specs.Held.{Holds, AllHeld, Held}
+use Rattle.held.proofs.OutcomesKeep.{either}
 use Rattle.held.proofs.HeldLists.{held-take}
 use Rattle.slots.specs.Slots.{bits, flag, headValues, excitationValues, spectrumValues, filterValues, valuesOf}
 use Rattle.trips.proofs.StayLaws.{AllStay, Same}
 use Rattle.stream.proofs.NextLaws.{Below}
-use Rattle.stream.proofs.PartLaws.{either}
 
 -- ---- the bits of an f64
 

@@ -1,7 +1,7 @@
 -- A sample through the filter of stage 0 changes no more than six rows of its taps. Assumes nothing.
 use mathlib.Core.Path.{_≡_, refl, _∙_}
 use mathlib.Core.List.{List}
-use Prim.Native.Nat.{ℕ, zero, suc, _+_, _-_, _*_, _/_, _%_, _≤_}
+use Prim.Native.Nat.{ℕ, _+_, _-_, _*_, _≤_}
 use native.Mathlib.Nat.{mul-le-mul, le-refl}
 use native.Mathlib.Omega.{arith}
 use lib.ListN.{length, length-set}
@@ -9,34 +9,14 @@ use lib.Ieee.{Float}
 use Rattle.number.specs.F64.{_‼_, 0f}
 use Rattle.number.specs.Lists.{row}
 use Rattle.number.proofs.Lists.{length-row}
-use Rattle.fir.specs.Fir.{Taps, start, group, tap, groups, singles, taps, firOf}
+use Rattle.fir.specs.Fir.{firOf}
 use Rattle.mlsa.specs.declared.MelLogSpectrumApproximation.{MelLogSpectrumApproximation}
 use Rattle.mlsa.specs.Mlsa.{Part, part, firstRow, secondRow, downward, passing, df1Of, df2Of, dfOf}
+use Rattle.held.proofs.FiltersKeep.{fir-keeps, rows-keep}
 use Rattle.stream.proofs.PastLaws.{Past, past-same, past-then, past-set, past-put}
 
--- ---- `fir`
-
-module _ (a : Float) (c : List Float) where
-  length-group : (i : ℕ) (t : Taps) → length (group a c i t .d) ≡ length (t .d)
-  length-group i t = simp length-set refl
-
-  length-groups : (n i : ℕ) (t : Taps) → length (groups a c n i t .d) ≡ length (t .d)
-  unfolding groups
-  length-groups zero i t = refl
-  length-groups (suc n) i t = length-groups n (i + 4) (group a c i t) ∙ length-group i t
-
-  length-singles : (n i : ℕ) (t : Taps) → length (singles a c n i t .d) ≡ length (t .d)
-  unfolding singles
-  length-singles zero i t = refl
-  length-singles (suc n) i t = length-singles n (i + 1) (tap a c i t) ∙ length-set (t .d) i _
-
-  length-taps : (n i : ℕ) (t : Taps) → length (taps a c n i t .d) ≡ length (t .d)
-  unfolding taps
-  length-taps n i t = length-singles (n % 4) (i + n / 4 * 4) (groups a c (n / 4) i t) ∙ length-groups (n / 4) i t
-
-  length-fir : (x : Float) (d : List Float) → length (firOf a x c d .d) ≡ length d
-  unfolding firOf
-  length-fir x d = length-taps (length d - 2) 2 (start a x d) ∙ simp length-set refl
+length-fir : (a : Float) (c : List Float) (x : Float) (d : List Float) → length (firOf a x c d .d) ≡ length d
+length-fir a c x d = fir-keeps (λ (l : List Float). length l ≡ length d) (λ l i y _ h. length-set l i y ∙ h) a c x d refl
 
 -- ---- the rows
 
@@ -44,21 +24,17 @@ record Same (n : ℕ) (p q : Part) : Type 0 where
   pub d1 : Past n (p .d1) (q .d1)
   pub d2 : length (q .d2) ≡ length (p .d2)
 
+-- rows 5 to 1 of a part whose taps are n or more, and the sample to answer 0
 module _ (n : ℕ) (one : ℕ → Part → Part) (each : (i : ℕ) (p : Part) → i ≤ 5 → n ≤ length (p .d1) → Same n p (one i p)) where
-  downward-same : (i : ℕ) (p : Part) → i ≤ 5 → n ≤ length (p .d1) → Same n p (downward one i p)
-  unfolding downward
-  downward-same zero p h l = record { d1 = past-same n (p .d1); d2 = refl }
-  downward-same (suc i) p h l =
-      let now = each (suc i) p h l in
-      let q = one (suc i) p in
-      let on = downward-same i q (omega arith) (omega (arith, l, now .d1 .size)) in
-      record { d1 = past-then n (p .d1) (q .d1) (downward one i q .d1) (now .d1) (on .d1); d2 = on .d2 ∙ now .d2 }
+  then-same : (p q : Part) (i : ℕ) → i ≤ 5 → n ≤ length (p .d1) → Same n p q → Same n p (one i q)
+  then-same p q i h l s =
+      let now = each i q h (omega (arith, l, s .d1 .size)) in
+      record { d1 = past-then n (p .d1) (q .d1) (one i q .d1) (s .d1) (now .d1); d2 = now .d2 ∙ s .d2 }
 
-  -- all five, and the sample to answer 0
   passing-same : (d1 d2 : List Float) (x : Float) → n ≤ length d1 → Past n d1 (passing one d1 d2 x .d1) × (length (passing one d1 d2 x .d2) ≡ length d2)
   passing-same d1 d2 x l =
       let p = part d1 d2 (record { x = x; out = 0f }) in
-      let s = downward-same 5 p (le-refl 5) l in
+      let s : Same n p (downward one 5 p) = rows-keep (Same n p) one (λ i q h s. then-same p q i h l s) d1 d2 x (record { d1 = past-same n d1; d2 = refl }) in
       (s .d1, length-set (downward one 5 p .d2) 0 (downward one 5 p .sums .x) ∙ s .d2)
 
 module _ (alpha : Float) (c : List Float) where
