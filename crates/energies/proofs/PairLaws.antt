@@ -1,7 +1,8 @@
 -- Two lists in one: what is read of each, what a store in one does, and the sums of both. Assumes nothing.
-use mathlib.Core.Path.{_≡_, refl, ap, _∙_}
+use mathlib.Core.Path.{_≡_, refl, sym, ap, _∙_}
 use mathlib.Core.List.{List, [], _∷_}
-use Prim.Native.Nat.{ℕ, zero, suc, _+_, _-_, _*_, _<_}
+use Prim.Native.Nat.{ℕ, zero, suc, _+_, _-_, _*_, _≤_, _<_}
+use native.Mathlib.Nat.{zero-add}
 use native.Mathlib.Omega.{arith}
 use lib.Ieee.{Float, nan}
 use lib.ListN.{length, getD, take, set, replicate}
@@ -12,7 +13,9 @@ use Rattle.number.proofs.Lists.{over-known, over-end}
 use Rattle.vectors.specs.Vectors.{sumFrom}
 use Rattle.vectors.proofs.VectorLaws.{sum-turn}
 use Rattle.cepstrum.specs.Weights.{weighedTerm}
+use Rattle.lost.specs.Lost.{UpTo}
 use Rattle.energies.specs.Pairs.{evens, odds}
+use Rattle.energies.specs.Sizes.{Tops, Highest}
 
 module _ {ℓ} {A : Type ℓ} where
   -- entry i of each
@@ -101,37 +104,75 @@ all-taken l i e h = over-end (take i l) (replicate 576 0f) i (omega arith) ∙ t
 
 -- ---- the sums of both
 
--- two more terms of the sum for entry n
-two-terms : (a b : List Float) (n k : ℕ) (d : Float) → k < n
-    → sumFrom (weighedTerm a b n) (k + 2) (n + 1 - (k + 2)) (d ⊕ a ‼ k ⊗ b ‼ (n - k) ⊕ a ‼ (k + 1) ⊗ b ‼ (n - (k + 1))) ≡ sumFrom (weighedTerm a b n) k (n + 1 - k) d
-two-terms a b n k d h =
+-- two more terms of the sum for entry n, of those from k to below m
+two-terms : (a b : List Float) (n k m : ℕ) (d : Float) → k + 1 < m
+    → sumFrom (weighedTerm a b n) (k + 2) (m - (k + 2)) (d ⊕ a ‼ k ⊗ b ‼ (n - k) ⊕ a ‼ (k + 1) ⊗ b ‼ (n - (k + 1))) ≡ sumFrom (weighedTerm a b n) k (m - k) d
+two-terms a b n k m d h =
     let two : k + 1 + 1 ≡ k + 2 = omega arith in
-    let second = sum-turn (weighedTerm a b n) (k + 1) (n + 1) (d ⊕ a ‼ k ⊗ b ‼ (n - k)) (omega arith) in
-    rw (← two) (second ∙ sum-turn (weighedTerm a b n) k (n + 1) d (omega arith))
+    let second = sum-turn (weighedTerm a b n) (k + 1) m (d ⊕ a ‼ k ⊗ b ‼ (n - k)) (omega arith) in
+    rw (← two) (second ∙ sum-turn (weighedTerm a b n) k m d (omega arith))
 
 -- the last one
-last-term : (a b : List Float) (n : ℕ) (d : Float) → d ⊕ a ‼ n ⊗ b ‼ 0 ≡ sumFrom (weighedTerm a b n) n (n + 1 - n) d
+last-term : (a b : List Float) (n k m : ℕ) (d : Float) → k + 1 ≡ m → d ⊕ a ‼ k ⊗ b ‼ (n - k) ≡ sumFrom (weighedTerm a b n) k (m - k) d
 unfolding sumFrom
-last-term a b n d =
-    let one : n + 1 - n ≡ 1 = omega arith in
-    let none : n - n ≡ 0 = omega arith in
-    rw (one, none) refl
+last-term a b n k m d h =
+    let one : m - k ≡ 1 = omega arith in
+    rw one refl
 
 -- the same, read in w and r at i and j, and then at i' and j'
-module _ (w r : List Float) (n k : ℕ) (d : Float) (i j i' j' : ℕ) where
-  pub even-turn : k < n → i ≡ 2 * k → j ≡ 2 * (n - k) → i' ≡ 2 * (k + 1) → j' ≡ 2 * (n - (k + 1))
-      → sumFrom (weighedTerm (evens w) (evens r) n) (k + 2) (n + 1 - (k + 2)) (d ⊕ w ‼ i ⊗ r ‼ j ⊕ w ‼ i' ⊗ r ‼ j') ≡ sumFrom (weighedTerm (evens w) (evens r) n) k (n + 1 - k) d
+module _ (w r : List Float) (n k m : ℕ) (d : Float) (i j i' j' : ℕ) where
+  pub even-turn : k + 1 < m → i ≡ 2 * k → j ≡ 2 * (n - k) → i' ≡ 2 * (k + 1) → j' ≡ 2 * (n - (k + 1))
+      → sumFrom (weighedTerm (evens w) (evens r) n) (k + 2) (m - (k + 2)) (d ⊕ w ‼ i ⊗ r ‼ j ⊕ w ‼ i' ⊗ r ‼ j') ≡ sumFrom (weighedTerm (evens w) (evens r) n) k (m - k) d
   even-turn h a b a' b' =
-      rw (even-at w k i nan a, even-at r (n - k) j nan b, even-at w (k + 1) i' nan a', even-at r (n - (k + 1)) j' nan b') (two-terms (evens w) (evens r) n k d h)
+      rw (even-at w k i nan a, even-at r (n - k) j nan b, even-at w (k + 1) i' nan a', even-at r (n - (k + 1)) j' nan b') (two-terms (evens w) (evens r) n k m d h)
 
-  pub odd-turn : k < n → i ≡ 2 * k + 1 → j ≡ 2 * (n - k) + 1 → i' ≡ 2 * (k + 1) + 1 → j' ≡ 2 * (n - (k + 1)) + 1
-      → sumFrom (weighedTerm (odds w) (odds r) n) (k + 2) (n + 1 - (k + 2)) (d ⊕ w ‼ i ⊗ r ‼ j ⊕ w ‼ i' ⊗ r ‼ j') ≡ sumFrom (weighedTerm (odds w) (odds r) n) k (n + 1 - k) d
+  pub odd-turn : k + 1 < m → i ≡ 2 * k + 1 → j ≡ 2 * (n - k) + 1 → i' ≡ 2 * (k + 1) + 1 → j' ≡ 2 * (n - (k + 1)) + 1
+      → sumFrom (weighedTerm (odds w) (odds r) n) (k + 2) (m - (k + 2)) (d ⊕ w ‼ i ⊗ r ‼ j ⊕ w ‼ i' ⊗ r ‼ j') ≡ sumFrom (weighedTerm (odds w) (odds r) n) k (m - k) d
   odd-turn h a b a' b' =
-      rw (odd-at w k i nan a, odd-at r (n - k) j nan b, odd-at w (k + 1) i' nan a', odd-at r (n - (k + 1)) j' nan b') (two-terms (odds w) (odds r) n k d h)
+      rw (odd-at w k i nan a, odd-at r (n - k) j nan b, odd-at w (k + 1) i' nan a', odd-at r (n - (k + 1)) j' nan b') (two-terms (odds w) (odds r) n k m d h)
 
-module _ (w r : List Float) (n k : ℕ) (d : Float) (i j : ℕ) where
-  pub even-last : k ≡ n → i ≡ 2 * n → j ≡ 0 → d ⊕ w ‼ i ⊗ r ‼ j ≡ sumFrom (weighedTerm (evens w) (evens r) n) k (n + 1 - k) d
-  even-last h a b = rw (even-at w n i nan a, even-at r 0 j nan b, h) (last-term (evens w) (evens r) n d)
+module _ (w r : List Float) (n k m : ℕ) (d : Float) (i j : ℕ) where
+  pub even-last : k + 1 ≡ m → i ≡ 2 * k → j ≡ 2 * (n - k) → d ⊕ w ‼ i ⊗ r ‼ j ≡ sumFrom (weighedTerm (evens w) (evens r) n) k (m - k) d
+  even-last h a b = rw (even-at w k i nan a, even-at r (n - k) j nan b) (last-term (evens w) (evens r) n k m d h)
 
-  pub odd-last : k ≡ n → i ≡ 2 * n + 1 → j ≡ 1 → d ⊕ w ‼ i ⊗ r ‼ j ≡ sumFrom (weighedTerm (odds w) (odds r) n) k (n + 1 - k) d
-  odd-last h a b = rw (odd-at w n i nan a, odd-at r 0 j nan b, h) (last-term (odds w) (odds r) n d)
+  pub odd-last : k + 1 ≡ m → i ≡ 2 * k + 1 → j ≡ 2 * (n - k) + 1 → d ⊕ w ‼ i ⊗ r ‼ j ≡ sumFrom (weighedTerm (odds w) (odds r) n) k (m - k) d
+  odd-last h a b = rw (odd-at w k i nan a, odd-at r (n - k) j nan b) (last-term (odds w) (odds r) n k m d h)
+
+-- ---- a sum in parts, and one that no later term changes
+
+sum-parts : (f : ℕ → Float) (k a b : ℕ) (d : Float) → sumFrom f k (a + b) d ≡ sumFrom f (k + a) b (sumFrom f k a d)
+unfolding sumFrom
+sum-parts f k zero b d =
+    let here : k + 0 ≡ k = omega arith in
+    rw (zero-add b, here) refl
+sum-parts f k (suc a) b d =
+    let on : suc a + b ≡ suc (a + b) = omega arith in
+    let there : k + suc a ≡ suc k + a = omega arith in
+    rw (on, there) (sum-parts f (suc k) a b (d ⊕ f k))
+
+-- the terms from k to below m, of which those to below k' are in d'
+pub sum-cut : (f : ℕ → Float) (k k' m : ℕ) (d d' : Float) → k ≤ k' → k' ≤ m → d' ≡ sumFrom f k (k' - k) d → sumFrom f k' (m - k') d' ≡ sumFrom f k (m - k) d
+sum-cut f k k' m d d' h l e =
+    let there : k + (k' - k) ≡ k' = omega arith in
+    let all : k' - k + (m - k') ≡ m - k = omega arith in
+    rw e (sym (rw (all, there) at (sum-parts f k (k' - k) (m - k') d)))
+
+sum-stays : (f : ℕ → Float) (k n : ℕ) (d : Float) → ((i : ℕ) → k ≤ i → i < k + n → d ⊕ f i ≡ d) → sumFrom f k n d ≡ d
+unfolding sumFrom
+sum-stays f k zero d h = refl
+sum-stays f k (suc n) d h = ap (sumFrom f (suc k) n) (h k (omega arith) (omega arith)) ∙ sum-stays f (suc k) n d (λ i a b. h i (omega arith) (omega arith))
+
+-- every product of later entries is lost in d
+module _ (w r : List Float) (t : List ℕ) (p n k top : ℕ) (d : Float) (tops : Tops t w) (high : Highest p n r) (short : n < 576) (some : 1 ≤ k) (here : k ≤ n) (is : top ≡ getD t (2 * k) 0)
+    (lost : (x y : Float) → UpTo top x → UpTo p y → d ⊕ x ⊗ y ≡ d) where
+  pub even-stays : sumFrom (weighedTerm (evens w) (evens r) n) k (n + 1 - k) d ≡ d
+  even-stays =
+      sum-stays (weighedTerm (evens w) (evens r) n) k (n + 1 - k) d
+      (λ i a b. rw (← even-at w i (2 * i) nan refl, ← even-at r (n - i) (2 * (n - i)) nan refl)
+      (lost (w ‼ (2 * i)) (r ‼ (2 * (n - i))) (rw is (tops (2 * k) (2 * i) (omega arith) (omega arith))) (high (2 * (n - i)) (omega arith))))
+
+  pub odd-stays : sumFrom (weighedTerm (odds w) (odds r) n) k (n + 1 - k) d ≡ d
+  odd-stays =
+      sum-stays (weighedTerm (odds w) (odds r) n) k (n + 1 - k) d
+      (λ i a b. rw (← odd-at w i (2 * i + 1) nan refl, ← odd-at r (n - i) (2 * (n - i) + 1) nan refl)
+      (lost (w ‼ (2 * i + 1)) (r ‼ (2 * (n - i) + 1)) (rw is (tops (2 * k) (2 * i + 1) (omega arith) (omega arith))) (high (2 * (n - i) + 1) (omega arith))))

@@ -1,164 +1,111 @@
--- `sums` meets its contract: of both, the terms that are left give what all of them give. Assumes nothing.
+-- `sums` meets its contract: of both, the terms that are left give what all of them give; where none can change either sum, both are done. Assumes nothing.
 use mathlib.Core.Path.{_≡_, refl, sym, _∙_}
-use Prim.Native.Nat.{_+_, _-_, _≤_}
+use Prim.Native.Nat.{ℕ, _+_, _-_, _≤_}
 use native.Mathlib.Omega.{arith}
+use lib.Ieee.{Float}
 use Rattle.number.specs.F64.{0f}
 use Rattle.vectors.specs.Vectors.{sumFrom}
-use Rattle.vectors.proofs.VectorLaws.{sum-done}
 use Rattle.cepstrum.specs.Weights.{weighedTerm}
 use Rattle.energies.specs.Pairs.{evens, odds}
-use Rattle.energies.proofs.PairLaws.{even-turn, odd-turn, even-last, odd-last}
+use Rattle.energies.proofs.PairLaws.{sum-cut, even-stays, odd-stays}
 use borrow.Author.Needs.{needs}
 use Rattle.energies.proofs.sums.Statement.{statement}
 use Rattle.energies.proofs.sums.Tie as tie
 
 abbrev Inv-loop : tie.InvT-loop
-Inv-loop w r n last first₀ second₀ k₀ first second k =
-    (1 ≤ k) × (k ≤ n + 1) × (sumFrom (weighedTerm (evens w) (evens r) n) k (n + 1 - k) first ≡ sumFrom (weighedTerm (evens w) (evens r) n) 1 n 0f) × (sumFrom (weighedTerm (odds w) (odds r) n) k (n + 1 - k) second ≡ sumFrom (weighedTerm (odds w) (odds r) n) 1 n 0f)
+Inv-loop w tops r high n d₀ k₀ d k =
+    (1 ≤ k) × (k ≤ n + 1) × (sumFrom (weighedTerm (evens w) (evens r) n) k (n + 1 - k) (d .first) ≡ sumFrom (weighedTerm (evens w) (evens r) n) 1 n 0f) × (sumFrom (weighedTerm (odds w) (odds r) n) k (n + 1 - k) (d .second) ≡ sumFrom (weighedTerm (odds w) (odds r) n) 1 n 0f)
 
 abbrev μ-loop : tie.MeasureT-loop
-μ-loop w r n last first₀ second₀ k₀ first second k = n + 1 - k
-
-mul-last : tie.Need-mul-last Inv-loop μ-loop
-mul-last c = search needs
+μ-loop w tops r high n d₀ k₀ d k = n - k
 
 loop-holds : tie.Need-loop-holds Inv-loop μ-loop
 loop-holds c =
-    let n = c .args .n in
-    let e : n + 1 - 1 ≡ n = omega arith in
-    (omega arith, omega arith, rw e refl, rw e refl)
+    let n = c .before .before .before .args .n in
+    let all : n + 1 - 1 ≡ n = omega arith in
+    (omega arith, omega arith, rw all refl, rw all refl)
 
-mul-i : tie.Need-mul-i Inv-loop μ-loop
-mul-i c = search needs
+add-loop : tie.Need-add-loop Inv-loop μ-loop
+add-loop c = search needs
 
-sub-j : tie.Need-sub-j Inv-loop μ-loop
-sub-j c = search needs
+add-terms : tie.Need-add-terms Inv-loop μ-loop
+add-terms c = search needs
 
-mul-first : tie.Need-mul-first Inv-loop μ-loop
-mul-first c = search needs
-
-shared-slice-read-first : tie.Need-shared-slice-read-first Inv-loop μ-loop
-shared-slice-read-first c = search needs
-
-mul-first-2 : tie.Need-mul-first-2 Inv-loop μ-loop
-mul-first-2 c = search needs
-
-shared-slice-read-first-2 : tie.Need-shared-slice-read-first-2 Inv-loop μ-loop
-shared-slice-read-first-2 c = search needs
-
-add-first : tie.Need-add-first Inv-loop μ-loop
-add-first c = search needs
-
-mul-first-3 : tie.Need-mul-first-3 Inv-loop μ-loop
-mul-first-3 c = search needs
-
-shared-slice-read-first-3 : tie.Need-shared-slice-read-first-3 Inv-loop μ-loop
-shared-slice-read-first-3 c = search needs
-
-sub-first : tie.Need-sub-first Inv-loop μ-loop
-sub-first c = search needs
-
-mul-first-4 : tie.Need-mul-first-4 Inv-loop μ-loop
-mul-first-4 c = search needs
-
-shared-slice-read-first-4 : tie.Need-shared-slice-read-first-4 Inv-loop μ-loop
-shared-slice-read-first-4 c = search needs
-
-add-second : tie.Need-add-second Inv-loop μ-loop
-add-second c = search needs
-
-mul-second : tie.Need-mul-second Inv-loop μ-loop
-mul-second c = search needs
-
-shared-slice-read-second : tie.Need-shared-slice-read-second Inv-loop μ-loop
-shared-slice-read-second c = search needs
-
-add-second-2 : tie.Need-add-second-2 Inv-loop μ-loop
-add-second-2 c = search needs
-
-mul-second-2 : tie.Need-mul-second-2 Inv-loop μ-loop
-mul-second-2 c = search needs
-
-shared-slice-read-second-2 : tie.Need-shared-slice-read-second-2 Inv-loop μ-loop
-shared-slice-read-second-2 c = search needs
-
-add-second-3 : tie.Need-add-second-3 Inv-loop μ-loop
-add-second-3 c = search needs
-
-mul-second-3 : tie.Need-mul-second-3 Inv-loop μ-loop
-mul-second-3 c = search needs
-
-shared-slice-read-second-3 : tie.Need-shared-slice-read-second-3 Inv-loop μ-loop
-shared-slice-read-second-3 c = search needs
-
-sub-second : tie.Need-sub-second Inv-loop μ-loop
-sub-second c = search needs
-
-mul-second-4 : tie.Need-mul-second-4 Inv-loop μ-loop
-mul-second-4 c = search needs
-
-shared-slice-read-second-4 : tie.Need-shared-slice-read-second-4 Inv-loop μ-loop
-shared-slice-read-second-4 c = search needs
+terms-requires : tie.Need-terms-requires Inv-loop μ-loop
+terms-requires c κs = search needs
 
 add-k : tie.Need-add-k Inv-loop μ-loop
 add-k c = search needs
+
+mul-top : tie.Need-mul-top Inv-loop μ-loop
+mul-top c = search needs
+
+mul-top-2 : tie.Need-mul-top-2 Inv-loop μ-loop
+mul-top-2 c = search needs
+
+shared-slice-read-top : tie.Need-shared-slice-read-top Inv-loop μ-loop
+shared-slice-read-top c = search needs
+
+unmoved-requires : tie.Need-unmoved-requires Inv-loop μ-loop
+unmoved-requires c κs = search needs
+
+unmoved-requires-2 : tie.Need-unmoved-requires-2 Inv-loop μ-loop
+unmoved-requires-2 c κs = search needs
+
+-- the sums with 32 more terms
+module _ (c : tie.After-terms Inv-loop μ-loop) where
+  abbrev top : tie.At-loop Inv-loop μ-loop
+  top = c .before .before
+
+  abbrev given : tie.Start Inv-loop μ-loop
+  given = top .before .before .before .before
+
+  abbrev even-term : ℕ → Float
+  even-term = weighedTerm (evens (given .args .w .now)) (evens (given .args .r .now)) (given .args .n)
+
+  abbrev odd-term : ℕ → Float
+  odd-term = weighedTerm (odds (given .args .w .now)) (odds (given .args .r .now)) (given .args .n)
+
+  even-more : sumFrom even-term (top .loop .k + 32) (given .args .n + 1 - (top .loop .k + 32)) (c .terms .result .first) ≡ sumFrom even-term 1 (given .args .n) 0f
+  even-more = sum-cut even-term (top .loop .k) (top .loop .k + 32) (given .args .n + 1) (top .loop .d .first) (c .terms .result .first) (omega arith) (omega arith) (c .terms .ensures .0) ∙ top .loop .inv .2
+
+  odd-more : sumFrom odd-term (top .loop .k + 32) (given .args .n + 1 - (top .loop .k + 32)) (c .terms .result .second) ≡ sumFrom odd-term 1 (given .args .n) 0f
+  odd-more = sum-cut odd-term (top .loop .k) (top .loop .k + 32) (given .args .n + 1) (top .loop .d .second) (c .terms .result .second) (omega arith) (omega arith) (c .terms .ensures .1) ∙ top .loop .inv .3
+
+returns : tie.Need-returns Inv-loop μ-loop
+returns c =
+    let made = c .before .before .before .before .before in
+    let start = given made in
+    let w = start .args .w .now in
+    let r = start .args .r .now in
+    let n = start .args .n in
+    let k = top made .loop .k + 32 in
+    let even = even-stays w r (start .args .tops .now) (start .args .high) n k _ (made .terms .result .first) (start .pre .1 .0) (start .pre .1 .1) (omega arith) (omega arith) (omega arith) refl (c .before .before .before .unmoved .ensures (c .before .before .if1 .taken)) in
+    let odd = odd-stays w r (start .args .tops .now) (start .args .high) n k _ (made .terms .result .second) (start .pre .1 .0) (start .pre .1 .1) (omega arith) (omega arith) (omega arith) refl (c .before .unmoved2 .ensures (c .if2 .taken)) in
+    (sym even ∙ even-more made, sym odd ∙ odd-more made)
 
 loop-less : tie.Need-loop-less Inv-loop μ-loop
 loop-less c = search needs
 
 loop-again : tie.Need-loop-again Inv-loop μ-loop
-loop-again c =
-    let top = c .before .before .before .before .before .before .before .before .before in
-    let w = top .before .args .w .now in
-    let r = top .before .args .r .now in
-    let n = top .before .args .n in
-    let k = top .loop .k in
-    let first = top .loop .first in
-    let second = top .loop .second in
-    (omega arith, omega arith, even-turn w r n k first _ _ _ _ (omega arith) (omega arith) (omega arith) (omega arith) (omega arith) ∙ top .loop .inv .2, odd-turn w r n k second _ _ _ _ (omega arith) (omega arith) (omega arith) (omega arith) (omega arith) ∙ top .loop .inv .3)
+loop-again c = (omega arith, omega arith, even-more (c .before .before .before .before .before), odd-more (c .before .before .before .before .before))
 
-mul-first-5 : tie.Need-mul-first-5 Inv-loop μ-loop
-mul-first-5 c = search needs
+loop-less-2 : tie.Need-loop-less-2 Inv-loop μ-loop
+loop-less-2 c = search needs
 
-shared-slice-read-first-5 : tie.Need-shared-slice-read-first-5 Inv-loop μ-loop
-shared-slice-read-first-5 c = search needs
+loop-again-2 : tie.Need-loop-again-2 Inv-loop μ-loop
+loop-again-2 c = (omega arith, omega arith, even-more (c .before .before .before), odd-more (c .before .before .before))
 
-shared-slice-read-first-6 : tie.Need-shared-slice-read-first-6 Inv-loop μ-loop
-shared-slice-read-first-6 c = search needs
+add-terms-2 : tie.Need-add-terms-2 Inv-loop μ-loop
+add-terms-2 c = search needs
 
-add-second-4 : tie.Need-add-second-4 Inv-loop μ-loop
-add-second-4 c = search needs
-
-mul-second-5 : tie.Need-mul-second-5 Inv-loop μ-loop
-mul-second-5 c = search needs
-
-shared-slice-read-second-5 : tie.Need-shared-slice-read-second-5 Inv-loop μ-loop
-shared-slice-read-second-5 c = search needs
-
-shared-slice-read-second-6 : tie.Need-shared-slice-read-second-6 Inv-loop μ-loop
-shared-slice-read-second-6 c = search needs
-
-returns : tie.Need-returns Inv-loop μ-loop
-returns c =
-    let top = c .before .before .before .before .before .before in
-    let w = top .before .args .w .now in
-    let r = top .before .args .r .now in
-    let n = top .before .args .n in
-    let k = top .loop .k in
-    let first = top .loop .first in
-    let second = top .loop .second in
-    (even-last w r n k first _ _ (omega arith) (omega arith) refl ∙ top .loop .inv .2, odd-last w r n k second _ _ (omega arith) (omega arith) refl ∙ top .loop .inv .3)
+terms-requires-2 : tie.Need-terms-requires-2 Inv-loop μ-loop
+terms-requires-2 c κs = search needs
 
 returns-2 : tie.Need-returns-2 Inv-loop μ-loop
 returns-2 c =
     let top = c .before .before in
-    let w = top .before .args .w .now in
-    let r = top .before .args .r .now in
-    let n = top .before .args .n in
-    let k = top .loop .k in
-    let first = sum-done (weighedTerm (evens w) (evens r) n) k (n + 1) (top .loop .first) (omega arith) in
-    let second = sum-done (weighedTerm (odds w) (odds r) n) k (n + 1) (top .loop .second) (omega arith) in
-    (sym first ∙ top .loop .inv .2, sym second ∙ top .loop .inv .3)
+    (c .terms2 .ensures .0 ∙ top .loop .inv .2, c .terms2 .ensures .1 ∙ top .loop .inv .3)
 
 pub sums-spec : {M : Type 1} → statement M
 sums-spec =
@@ -166,41 +113,21 @@ sums-spec =
     (tie.spec
     Inv-loop
     μ-loop
-    mul-last
     loop-holds
-    mul-i
-    sub-j
-    mul-first
-    shared-slice-read-first
-    mul-first-2
-    shared-slice-read-first-2
-    add-first
-    mul-first-3
-    shared-slice-read-first-3
-    sub-first
-    mul-first-4
-    shared-slice-read-first-4
-    add-second
-    mul-second
-    shared-slice-read-second
-    add-second-2
-    mul-second-2
-    shared-slice-read-second-2
-    add-second-3
-    mul-second-3
-    shared-slice-read-second-3
-    sub-second
-    mul-second-4
-    shared-slice-read-second-4
+    add-loop
+    add-terms
+    terms-requires
     add-k
+    mul-top
+    mul-top-2
+    shared-slice-read-top
+    unmoved-requires
+    unmoved-requires-2
+    returns
     loop-less
     loop-again
-    mul-first-5
-    shared-slice-read-first-5
-    shared-slice-read-first-6
-    add-second-4
-    mul-second-5
-    shared-slice-read-second-5
-    shared-slice-read-second-6
-    returns
+    loop-less-2
+    loop-again-2
+    add-terms-2
+    terms-requires-2
     returns-2)

@@ -1,0 +1,2 @@
+mod SqueezeLaws
+pub mod LostLaws
