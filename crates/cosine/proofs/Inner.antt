@@ -8,7 +8,7 @@ use lib.Dec.{lit≤}
 use Rattle.elementary.specs.Series.{factorial, evenFactorial}
 use Rattle.elementary.proofs.Chain.{under, over, Shrinks}
 use Rattle.cosine.specs.Cos.{one, pair, alternating}
-use Rattle.cosine.proofs.Steps.{Square, Near, Budget, near-scaled, step, code-le}
+use Rattle.cosine.proofs.Steps.{Square, Near, Budget, near-scaled, step}
 
 -- ---- the divisors
 abbrev pub g : ℕ → ℕ
@@ -79,8 +79,3 @@ own-inner a i n h l = inner 0 7 a one a (lit≤ tt) own-budget (own a h) i n l
 
 pub code-cap : (a i n : ℕ) → a ≤ 10 * one → 1 ≤ i → alternating a i n ≤ one
 code-cap a i n h l = own-inner a i n h l .cap
-
-pub product-cap : (a i n : ℕ) → a ≤ 10 * one → 1 ≤ i → a * alternating a (suc i) n / (one * pair i) ≤ one
-product-cap a i n h l =
-    code-le 0 7 one a one a (alternating a (suc i) n) (g (suc i) * over g true a one (suc i) n) (under g one (suc i) n) (pair i) (lit≤ tt) (lit≤ tt) own-budget (own a h) (own-inner a (suc i) n h (omega arith)) (pair-least i l)
-    (a * alternating a (suc i) n / (one * pair i)) (div-mul-le-self (a * alternating a (suc i) n) (one * pair i))

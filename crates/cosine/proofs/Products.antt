@@ -2,7 +2,7 @@
 use mathlib.Core.Path.{_≡_, refl, sym, ap, _∙_, subst}
 use mathlib.Core.Bool.{false}
 use Prim.Native.Nat.{ℕ, zero, suc, _+_, _-_, _*_, _/_, _%_, _^_, _≤_, _<_}
-use native.Mathlib.Nat.{le-trans, le-of-eq, mod-eq-of-lt, mul-div-mul-left, div-div-eq-div-mul, mul-le-mul, mul-one, one-mul, div-mul-le-self}
+use native.Mathlib.Nat.{mod-eq-of-lt, mul-div-mul-left, div-div-eq-div-mul, div-lt-iff-lt-mul, mul-le-mul, mul-le-mul-left, mul-one, one-mul, div-mul-le-self}
 use native.Mathlib.Omega.{arith}
 use lib.Dec.{lit≤, lit<}
 use borrow.Author.Tests.{lt-ltb, le-ltb}
@@ -12,11 +12,10 @@ use lib.Ieee.{Float, fin, binary64, mul, neg, round, ofInt}
 use lib.Ieee.Back.{round-whole}
 use lib.Ieee.Exact.{HasValue}
 use lib.Ieee.Positive.{mul-at, positive-of-value}
-use Rattle.cosine.specs.Cos.{one, turn, pair, alternating, fallOf, floatOf, oneLess, steps}
+use Rattle.cosine.specs.Cos.{one, turn, alternating, fallOf, floatOf, oneLess, steps}
 use Rattle.cosine.proofs.Steps.{square-small}
 use Rattle.cosine.proofs.Value.{fall-is}
 use Rattle.cosine.proofs.Answers.{fall-small}
-use Rattle.cosine.proofs.Inner.{product-cap}
 
 -- ---- products
 -- 2 ^ 64 is 32 times 1: the factors are moved up by five bits in all
@@ -35,25 +34,14 @@ times-is a p h A P e = product-is a p (a * 2 ^ 1 % 2 ^ 64) (p * 2 ^ 4 % 2 ^ 64) 
 pub square-is : (r h : ℕ) → 2 * r ≤ turn → h ≡ r * 2 ^ 2 % 2 ^ 64 * (r * 2 ^ 3 % 2 ^ 64) / 2 ^ 64 → h ≡ r * r / one
 square-is r h R e = product-is r r (r * 2 ^ 2 % 2 ^ 64) (r * 2 ^ 3 % 2 ^ 64) h (moved r r (2 ^ 2) (2 ^ 3) (2 ^ 64) 32 (omega arith) (omega arith) refl) e
 
--- ---- a turn of the loop: i is taken down to i - 1, and the divisor is that of i - 1
-pub turned : (a p i h : ℕ) → a ≤ 10 * one → 1 < i → i ≤ 31 → p ≡ alternating a i (31 - i) → h ≡ a * p / one
-    → (h / pair (i - 1) ≤ one) × (one - h / pair (i - 1) ≡ alternating a (i - 1) (31 - (i - 1)))
-unfolding alternating
-turned a p zero h A I J e q = absurd (omega arith)
-turned a p (suc j) h A I J e q =
-    let d : h / pair (suc j - 1) ≡ a * alternating a (suc j) (31 - suc j) / (one * pair j) = ap (λ (z : ℕ). h / pair z) (back j) ∙ ap (λ (z : ℕ). z / pair j) (q ∙ ap (λ (z : ℕ). a * z / one) e) ∙ div-div-eq-div-mul (a * alternating a (suc j) (31 - suc j)) one (pair j) in (
-      le-trans (le-of-eq d) (product-cap a j (31 - suc j) A (omega arith)),
-      ap (λ (z : ℕ). one - z) d ∙ sym (ap (λ (z : ℕ). alternating a z (31 - z)) (back j) ∙ ap (λ (z : ℕ). alternating a j z) (more j J)),
-    )
-  where
-    back : (j : ℕ) → suc j - 1 ≡ j
-    back j = omega arith
-
-    more : (j : ℕ) → suc j ≤ 31 → 31 - j ≡ suc (31 - suc j)
-    more j k = omega arith
-
-pub divisor-most : (i : ℕ) → i ≤ 31 → pair (i - 1) ≤ 3782
-divisor-most i h = mul-le-mul {n₁ = 2 * (i - 1) + 1} {m₁ = 2 * (i - 1) + 2} {n₂ = 61} {m₂ = 62} (omega arith) (omega arith)
+-- ---- a step of the series
+pub step-is : (a p h d : ℕ) → a ≤ 10 * one → p ≤ one → 12 ≤ d → h ≡ a * p / one → (h / d ≤ one) × (h / d ≡ a * p / (one * d))
+step-is a p h d A P D e =
+    let most : a * p ≤ 10 * one * one = mul-le-mul A P in
+    let all : a * p / one < 10 * one + 1 = div-lt-iff-lt-mul {k = one} {x = a * p} {y = 10 * one + 1} (lit< tt) .1 (omega (arith, most)) in
+    let wide : (one + 1) * 12 ≤ (one + 1) * d = mul-le-mul-left (one + 1) D in
+    let small : h / d < one + 1 = div-lt-iff-lt-mul {k = d} {x = h} {y = one + 1} (omega (arith, D)) .1 (omega (arith, all, wide, e)) in
+    (omega (arith, small), ap (λ (z : ℕ). z / d) e ∙ div-div-eq-div-mul (a * p) one d)
 
 -- ---- a whole number times 2 ^ -51
 pub over-2^51 : (m : ℕ) → m ≤ 2 ^ 53 → mul binary64 (ofInt binary64 (pos m)) (fin false 1 (negsuc 50)) ≡ round binary64 false m (2 ^ 51)
