@@ -31,13 +31,13 @@ pub sample-of : {Filter : Type 0} (gain : List Float → Float → Float) (df : 
 unfolding sampleBy
 sample-of gain df volume x loud y increments c after f g l e a = rw (a, ← l, ← e) refl
 
--- a stretch at stage 0 whose first rows of taps were laid side by side before it, as `four`, and are laid back after it
-pub laid-back : (alpha volume : Float) (increments c samples d11 d12 d21 d22 four : List Float) (c' made e11 e12 e21 e22 four' last : List Float) (n : ℕ)
-    → flat n four d21 ≡ d21
-    → passage made (state c' (filter e11 e12 (flat n four' e21) e22)) ≡ through (sampleOf alpha volume increments) (state c (filter d11 d12 (flat n four d21) d22)) samples
-    → last ≡ flat n four' e21
+-- a stretch at stage 0 whose first rows of taps were laid side by side before it, as `first` and `second`, and are laid back after it
+pub laid-back : (alpha volume : Float) (increments c samples d11 d12 d21 d22 first second : List Float) (c' made e11 e12 e21 e22 first' second' last : List Float) (n : ℕ)
+    → flat n first second d21 ≡ d21
+    → passage made (state c' (filter e11 e12 (flat n first' second' e21) e22)) ≡ through (sampleOf alpha volume increments) (state c (filter d11 d12 (flat n first second d21) d22)) samples
+    → last ≡ flat n first' second' e21
     → passage made (state c' (filter e11 e12 last e22)) ≡ through (sampleOf alpha volume increments) (state c (filter d11 d12 d21 d22)) samples
-laid-back alpha volume increments c samples d11 d12 d21 d22 four c' made e11 e12 e21 e22 four' last n laid through-laid back =
+laid-back alpha volume increments c samples d11 d12 d21 d22 first second c' made e11 e12 e21 e22 first' second' last n laid through-laid back =
     rw back (through-laid ∙ ap (λ (l : List Float). through (sampleOf alpha volume increments) (state c (filter d11 d12 l d22)) samples) laid)
 
 -- eight rows of 64 are 512

@@ -39,7 +39,8 @@ pub fn stretch_in(
         ≡ through (sampleOf alpha volume (now (increments .entry)))
         (state (now (c .entry)) (filter (now (d11 .entry)) (now (d12 .entry)) (now (d21 .entry)) (now (d22 .entry)))) (now (samples .entry)) ⌝ }
 {
-    let mut four = [0.0; 256];
+    let mut first = [0.0; 128];
+    let mut second = [0.0; 128];
     between(
         samples,
         c,
@@ -48,7 +49,8 @@ pub fn stretch_in(
         volume,
         d11,
         d12,
-        &mut four,
+        &mut first,
+        &mut second,
         d21,
         d22,
     );

@@ -31,8 +31,11 @@ same-length-5 c = search needs
 same-length-6 : tie.Need-same-length-6
 same-length-6 c = search needs
 
+same-length-7 : tie.Need-same-length-7
+same-length-7 c = search needs
+
 returns : tie.Need-returns
-returns c n long = sample-of _ _ _ _ _ _ _ _ _ _ _ (c .before .before .before .before .before .before .before .before .before .before .before .before .before .before .before .before .before .before .before .before .before .gain .ensures) (rw long at (c .before .before .before .before .before .before .before .before .before .before .before .before .before .before .df-laid .ensures)) (c .before .before .add .ensures)
+returns c n long = sample-of _ _ _ _ _ _ _ _ _ _ _ (c .before .before .before .before .before .before .before .before .before .before .before .before .before .before .before .before .before .before .before .before .before .before .before .before .gain .ensures) (rw long at (c .before .before .before .before .before .before .before .before .before .before .before .before .before .before .before .before .df-laid .ensures)) (c .before .before .add .ensures)
 
 pub sample-spec : {M : Type 1} → statement M
 sample-spec =
@@ -47,4 +50,5 @@ sample-spec =
     same-length-4
     same-length-5
     same-length-6
+    same-length-7
     returns)
