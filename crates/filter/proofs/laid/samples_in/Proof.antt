@@ -10,15 +10,15 @@ use Rattle.history.proofs.ThroughLaws.{fromHere, through-all, through-turn, thr
 use Rattle.mlsa.specs.Mlsa.{filter}
 use Rattle.mlsa.specs.Laid.{flat}
 use Rattle.filter.specs.Sample.{state}
-use Rattle.filter.specs.Zero.{sampleOf}
+use Rattle.filter.specs.Zero.{filteredOf}
 use Rattle.filter.proofs.laid.samples_in.Statement.{statement}
 use Rattle.filter.proofs.laid.samples_in.Tie as tie
 
 abbrev Inv-loop : tie.InvT-loop
 Inv-loop samples₀ c₀ increments alpha volume d11₀ d12₀ first₀ second₀ d21₀ d22₀ i₀ samples c d11 d12 first second d21 d22 i =
     (i ≤ length samples) × (length samples ≡ length samples₀) × (length c ≡ length c₀) × (length d11 ≡ 6) × (length d12 ≡ 6) × (length first ≡ length first₀) × (length second ≡ length second₀) × (length d21 ≡ length d21₀) × (length d22 ≡ 6)
-    × (fromHere (sampleOf alpha volume increments) i (state c (filter d11 d12 (flat (length c₀) first second d21) d22)) samples
-    ≡ through (sampleOf alpha volume increments) (state c₀ (filter d11₀ d12₀ (flat (length c₀) first₀ second₀ d21₀) d22₀)) samples₀)
+    × (fromHere (filteredOf alpha volume increments) i (state c (filter d11 d12 (flat (length c₀) first second d21) d22)) samples
+    ≡ through (filteredOf alpha volume increments) (state c₀ (filter d11₀ d12₀ (flat (length c₀) first₀ second₀ d21₀) d22₀)) samples₀)
 
 abbrev μ-loop : tie.MeasureT-loop
 μ-loop samples₀ c₀ increments alpha volume d11₀ d12₀ first₀ second₀ d21₀ d22₀ i₀ samples c d11 d12 first second d21 d22 i = length samples - i
