@@ -1,28 +1,30 @@
--- A sample by what its steps come to, a stretch with its rows laid side by side, and the room for the rows of taps. Assumes nothing.
-use mathlib.Core.Path.{_≡_, refl, ap, _∙_}
-use mathlib.Core.List.{List}
+-- A sample by what its steps come to, a stretch with its rows laid side by side, its gains before the rest, and the room for the rows of taps. Assumes nothing.
+use mathlib.Core.Path.{_≡_, refl, sym, ap, _∙_}
+use mathlib.Core.List.{List, [], _∷_}
 use mathlib.Core.Bool.{true, false}
-use Prim.Native.Nat.{ℕ, _*_, _≤_}
+use Prim.Native.Nat.{ℕ, _*_, _≤_, _<_}
 use native.Mathlib.Nat.{mul-le-mul-right}
 use native.Mathlib.Omega.{arith}
-use lib.Ieee.{Float, ne}
-use Rattle.number.specs.F64.{_⊗_, _‼_, 0f}
+use lib.ListN.{length}
+use lib.Ieee.{Float, ne, add}
+use Rattle.number.specs.F64.{_⊕_, _⊗_, _‼_, 0f}
 use Rattle.exponential.specs.Exp.{expOf}
 use Rattle.history.specs.Through.{Turned, passage, through}
 use Rattle.vectors.specs.Vectors.{plus}
+use Rattle.mlsa.specs.declared.MelLogSpectrumApproximation.{MelLogSpectrumApproximation}
 use Rattle.mlsa.specs.Mlsa.{filter}
 use Rattle.mlsa.specs.Laid.{flat}
 use Rattle.filter.specs.Sample.{State, state, sampleBy}
-use Rattle.filter.specs.Zero.{gained, sampleOf}
+use Rattle.filter.specs.Zero.{gained, gainOf, sampleOf, filteredOf}
 
 -- the gain of stage 0, by the test of the sample
-pub gained-loud : (c : List Float) (x : Float) → ne x 0f ≡ true → x ⊗ expOf (c ‼ 0) ≡ gained c x
+pub gained-loud : (c0 x : Float) → ne x 0f ≡ true → x ⊗ expOf c0 ≡ gained (c0 ∷ []) x
 unfolding gained
-gained-loud c x t = rw t refl
+gained-loud c0 x t = rw t refl
 
-pub gained-still : (c : List Float) (x : Float) → ne x 0f ≡ false → x ≡ gained c x
+pub gained-still : (c0 x : Float) → ne x 0f ≡ false → x ≡ gained (c0 ∷ []) x
 unfolding gained
-gained-still c x t = rw t refl
+gained-still c0 x t = rw t refl
 
 pub sample-of : {Filter : Type 0} (gain : List Float → Float → Float) (df : List Float → Filter → Float → Turned Filter Float)
     (volume x loud y : Float) (increments c after : List Float) (f g : Filter)
@@ -31,14 +33,38 @@ pub sample-of : {Filter : Type 0} (gain : List Float → Float → Float) (df : 
 unfolding sampleBy
 sample-of gain df volume x loud y increments c after f g l e a = rw (a, ← l, ← e) refl
 
--- a stretch at stage 0 whose first rows of taps were laid side by side before it, as `four`, and are laid back after it
-pub laid-back : (alpha volume : Float) (increments c samples d11 d12 d21 d22 four : List Float) (c' made e11 e12 e21 e22 four' last : List Float) (n : ℕ)
-    → flat n four d21 ≡ d21
-    → passage made (state c' (filter e11 e12 (flat n four' e21) e22)) ≡ through (sampleOf alpha volume increments) (state c (filter d11 d12 (flat n four d21) d22)) samples
-    → last ≡ flat n four' e21
-    → passage made (state c' (filter e11 e12 last e22)) ≡ through (sampleOf alpha volume increments) (state c (filter d11 d12 d21 d22)) samples
-laid-back alpha volume increments c samples d11 d12 d21 d22 four c' made e11 e12 e21 e22 four' last n laid through-laid back =
-    rw back (through-laid ∙ ap (λ (l : List Float). through (sampleOf alpha volume increments) (state c (filter d11 d12 l d22)) samples) laid)
+-- a stretch at stage 0 whose first rows of taps were laid side by side before it, as `first` and `second`, and are laid back after it
+pub laid-back : (alpha volume : Float) (increments c samples d11 d12 d21 d22 first second : List Float) (c' made e11 e12 e21 e22 first' second' last : List Float) (n : ℕ)
+    → flat n first second d21 ≡ d21
+    → passage made (state c' (filter e11 e12 (flat n first' second' e21) e22)) ≡ through (filteredOf alpha volume increments) (state c (filter d11 d12 (flat n first second d21) d22)) samples
+    → last ≡ flat n first' second' e21
+    → passage made (state c' (filter e11 e12 last e22)) ≡ through (filteredOf alpha volume increments) (state c (filter d11 d12 d21 d22)) samples
+laid-back alpha volume increments c samples d11 d12 d21 d22 first second c' made e11 e12 e21 e22 first' second' last n laid through-laid back =
+    rw back (through-laid ∙ ap (λ (l : List Float). through (filteredOf alpha volume increments) (state c (filter d11 d12 l d22)) samples) laid)
+
+-- ONE MACHINE BEFORE ANOTHER: where a turn of both is a turn of one, whose state is a part of the whole, and then a turn of the other, all samples may go
+-- through the one and then through the other
+one-before : {A B Sample : Type 0} (one : A → Sample → Turned A Sample) (other both : B → Sample → Turned B Sample) (part : B → A)
+    → ((b : B) (x : Sample) → both b x ≡ other b (one (part b) x .sample))
+    → ((b : B) (x : Sample) → part (both b x .state) ≡ one (part b) x .state)
+    → (b : B) (xs : List Sample) → through both b xs ≡ through other b (through one (part b) xs .made)
+unfolding through
+one-before one other both part turn on b [] = refl
+one-before one other both part turn on b (x ∷ xs) = rw (one-before one other both part turn on (both b x .state) xs, on b x, turn b x) refl
+
+-- c[0] goes on by its increment
+first-on : (c : List Float) (y : Float) (ys : List Float) → plus c (y ∷ ys) ‼ 0 ≡ c ‼ 0 ⊕ y
+unfolding plus add
+first-on [] y ys = refl
+first-on (x ∷ xs) y ys = refl
+
+-- the gains of all samples of a stretch may be made before the rest
+pub gains-first : (alpha volume : Float) (increments : List Float) (s : State MelLogSpectrumApproximation) (samples : List Float) → 0 < length increments
+    → through (filteredOf alpha volume increments) s (through (gainOf (increments ‼ 0)) (s .c ‼ 0) samples .made) ≡ through (sampleOf alpha volume increments) s samples
+unfolding sampleBy gained
+gains-first alpha volume [] s samples h = absurd (omega arith)
+gains-first alpha volume (y ∷ ys) s samples h =
+    sym (one-before (gainOf y) (filteredOf alpha volume (y ∷ ys)) (sampleOf alpha volume (y ∷ ys)) (λ (t : State MelLogSpectrumApproximation). t .c ‼ 0) (λ t x. refl) (λ t x. first-on (t .c) y ys) s samples)
 
 -- eight rows of 64 are 512
 pub rows-within : (stages n : ℕ) → stages ≤ 8 → n ≤ 64 → stages * n ≤ 512

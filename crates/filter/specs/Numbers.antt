@@ -48,6 +48,11 @@ pub minus-zero-not-gained : zero.gained loud (− 0f) ≡ − 0f
 unfolding zero.gained ne eq neg ofBits ofInt
 minus-zero-not-gained = refl
 
+-- c[0] goes on past each of them
+pub gains-of-zeros : through (zero.gainOf 2f) (whole 1000) (0f ∷ − 0f ∷ []) ≡ passage (0f ∷ − 0f ∷ []) (whole 1004)
+unfolding through zero.gained ne eq neg add ofBits ofInt
+gains-of-zeros = refl
+
 -- the samples 0 and -0, from such a filter on: 16.54750482608 and 29.77021682852346
 abbrev zero-stretch : List Float
 zero-stretch = through (zero.sampleOf ½f 2f (whole 1 ∷ ½f ∷ quarter ∷ [])) (state loud (mlsa.filter rising falling six-rows falling)) (0f ∷ − 0f ∷ []) .made
@@ -55,6 +60,11 @@ zero-stretch = through (zero.sampleOf ½f 2f (whole 1 ∷ ½f ∷ quarter ∷ []
 pub two-zeros : zero-stretch ≡ fin false 291106783471271 (negsuc 43) ∷ fin false 2094892772119955 (negsuc 45) ∷ []
 unfolding through sampleBy zero.gained mlsa.dfOf mlsa.df1Of mlsa.df2Of mlsa.downward mlsa.firstRow mlsa.secondRow mlsa.weighed firOf plus ne eq ofBits ofInt add sub mul neg
 two-zeros = refl
+
+-- both had their gain: the rest by itself makes the same of them
+pub two-zeros-filtered : through (zero.filteredOf ½f 2f (whole 1 ∷ ½f ∷ quarter ∷ [])) (state loud (mlsa.filter rising falling six-rows falling)) (0f ∷ − 0f ∷ []) .made ≡ zero-stretch
+unfolding through sampleBy zero.gained mlsa.dfOf mlsa.df1Of mlsa.df2Of mlsa.downward mlsa.firstRow mlsa.secondRow mlsa.weighed firOf plus ne eq ofBits ofInt add sub mul neg
+two-zeros-filtered = refl
 
 -- ---- stage 2: alpha 0.5, volume 2, coefficients [3, 1, 2, 3], increments [1, 0.5, 0.25, 2], taps [1, 2, 3, 4] and [4, 3, 2, 1]
 

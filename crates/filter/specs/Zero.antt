@@ -1,8 +1,8 @@
 -- A sample at stage 0. Assumes nothing.
 use mathlib.Core.Bool.{cond}
-use mathlib.Core.List.{List}
+use mathlib.Core.List.{List, [], _∷_}
 use lib.Ieee.{Float, ne}
-use Rattle.number.specs.F64.{_⊗_, 0f, _‼_}
+use Rattle.number.specs.F64.{_⊕_, _⊗_, 0f, _‼_}
 use Rattle.exponential.specs.Exp.{expOf}
 use Rattle.history.specs.Through.{Turned}
 use Rattle.mlsa.specs.declared.MelLogSpectrumApproximation.{MelLogSpectrumApproximation}
@@ -15,3 +15,13 @@ gained c x = cond (ne x 0f) (x ⊗ expOf (c ‼ 0)) x
 
 abbrev pub sampleOf : (alpha volume : Float) (increments : List Float) → State MelLogSpectrumApproximation → Float → Turned (State MelLogSpectrumApproximation) Float
 sampleOf alpha = sampleBy gained (dfOf alpha)
+
+-- ---- the same in two: the gains of all samples, and then the rest
+
+-- the gain by c[0] alone, which goes on by its increment
+abbrev pub gainOf : Float → Float → Float → Turned Float Float
+gainOf increment c0 x = record { sample = gained (c0 ∷ []) x; state = c0 ⊕ increment }
+
+-- a sample that has its gain
+abbrev pub filteredOf : (alpha volume : Float) (increments : List Float) → State MelLogSpectrumApproximation → Float → Turned (State MelLogSpectrumApproximation) Float
+filteredOf alpha = sampleBy (λ c x. x) (dfOf alpha)

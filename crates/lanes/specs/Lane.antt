@@ -1,4 +1,4 @@
--- Four rows side by side in one list: entry 4 * i + k is entry i of row k, which is called lane k. Assumes nothing.
+-- Two rows side by side in one list: entry 2 * i + k is entry i of row k, which is called lane k. Assumes nothing.
 use mathlib.Core.Path.{_≡_, refl}
 use mathlib.Core.List.{List, [], _∷_}
 use Prim.Native.Nat.{ℕ, zero, suc, _+_, _*_}
@@ -7,48 +7,44 @@ use lib.Ieee.{Float}
 use Rattle.number.specs.F64.{_‼_, 0f, ½f, 1f, 2f}
 use Rattle.fir.specs.declared.Carried.{Carried}
 use Rattle.fir.specs.Fir.{Taps}
-use Rattle.lanes.specs.declared.Quad.{Quad}
+use Rattle.lanes.specs.declared.Pair.{Pair}
 use Rattle.lanes.specs.declared.Abreast.{Abreast}
 
 -- the first n entries of lane k
 unfoldable pub lane : ℕ → ℕ → List Float → List Float
 lane k zero l = []
-lane k (suc n) l = l ‼ k ∷ lane k n (drop 4 l)
+lane k (suc n) l = l ‼ k ∷ lane k n (drop 2 l)
 
 -- of a number for each lane, that of lane k
-abbrev pub side : ℕ → Quad → Float
-side zero q = q .a
-side (suc zero) q = q .b
-side (suc (suc zero)) q = q .c
-side (suc (suc (suc k))) q = q .d
+abbrev pub side : ℕ → Pair → Float
+side zero p = p .a
+side (suc k) p = p .b
 
 -- entry i of each lane
-abbrev pub quadAt : List Float → ℕ → Quad
-quadAt l i = record { a = l ‼ (4 * i); b = l ‼ (4 * i + 1); c = l ‼ (4 * i + 2); d = l ‼ (4 * i + 3) }
+abbrev pub pairAt : List Float → ℕ → Pair
+pairAt l i = record { a = l ‼ (2 * i); b = l ‼ (2 * i + 1) }
 
 -- the list with the entries i of the lanes set
-abbrev pub putQuad : List Float → ℕ → Quad → List Float
-putQuad l i q = set (set (set (set l (4 * i) (q .a)) (4 * i + 1) (q .b)) (4 * i + 2) (q .c)) (4 * i + 3) (q .d)
+abbrev pub putPair : List Float → ℕ → Pair → List Float
+putPair l i p = set (set l (2 * i) (p .a)) (2 * i + 1) (p .b)
 
 -- of what is carried for each lane, that of lane k
 abbrev pub sideOn : ℕ → Abreast → Carried
 sideOn zero s = s .a
-sideOn (suc zero) s = s .b
-sideOn (suc (suc zero)) s = s .c
-sideOn (suc (suc (suc k))) s = s .d
+sideOn (suc k) s = s .b
 
 -- the taps of lane k, and what is carried on to its next
 abbrev pub tapsOf : ℕ → ℕ → List Float → Abreast → Taps
 tapsOf k n l s = record { d = lane k n l; on = sideOn k s }
 
--- eight numbers: lane 2 is 1, 0, and with 2, 2, ½, 2 at entry 1 it is 1, ½
+-- four numbers: lane 1 is ½, 2, and with 0, 1 at entry 1 it is ½, 1
 abbrev two-each : List Float
-two-each = 0f ∷ ½f ∷ 1f ∷ 2f ∷ 2f ∷ 1f ∷ 0f ∷ ½f ∷ []
+two-each = 0f ∷ ½f ∷ 1f ∷ 2f ∷ []
 
-pub third-lane : lane 2 2 two-each ≡ 1f ∷ 0f ∷ []
+pub second-lane : lane 1 2 two-each ≡ ½f ∷ 2f ∷ []
 unfolding lane
-third-lane = refl
+second-lane = refl
 
-pub third-lane-put : lane 2 2 (putQuad two-each 1 (record { a = 2f; b = 2f; c = ½f; d = 2f })) ≡ 1f ∷ ½f ∷ []
+pub second-lane-put : lane 1 2 (putPair two-each 1 (record { a = 0f; b = 1f })) ≡ ½f ∷ 1f ∷ []
 unfolding lane
-third-lane-put = refl
+second-lane-put = refl

@@ -1,79 +1,63 @@
-// Four filters `fir` at once, on rows of taps that stand side by side: entry 4 * i + k is tap i of row k. Each lane does what `fir` does.
+// Two filters `fir` at once, on rows of taps that stand side by side: entry 2 * i + k is tap i of row k. Each lane does what `fir` does. With four lanes
+// x86-64 has too few registers for what is carried.
 ghost use mathlib.Core.Path.{_≡_};
 ghost use Prim.Native.Nat.{ℕ, _+_, _-_, _*_, _/_, _≤_, _<_};
 ghost use lib.ListN.{length};
 ghost use Rattle.fir.specs.Fir.{start, group, tap, groups, singles, firOf};
-ghost use Rattle.lanes.specs.Lane.{lane, side, quadAt, putQuad, tapsOf};
+ghost use Rattle.lanes.specs.Lane.{lane, side, pairAt, putPair, tapsOf};
 use fir::Carried;
 
 // A number for each lane.
-pub struct Quad {
+pub struct Pair {
     pub a: f64,
     pub b: f64,
-    pub c: f64,
-    pub d: f64,
 }
 
 // What is carried from tap to tap, for each lane.
 pub struct Abreast {
     pub a: Carried,
     pub b: Carried,
-    pub c: Carried,
-    pub d: Carried,
 }
 
 // Entry i of each lane.
-pub fn at(l: &[f64], i: usize) -> Quad
-    requires { ⌜ 4 * i + 3 < length (now l) ⌝ }
-    ensures { λ r. ⌜ r ≡ quadAt (now (l .entry)) i ⌝ }
+pub fn at(l: &[f64], i: usize) -> Pair
+    requires { ⌜ 2 * i + 1 < length (now l) ⌝ }
+    ensures { λ r. ⌜ r ≡ pairAt (now (l .entry)) i ⌝ }
 {
-    Quad {
-        a: l[4 * i],
-        b: l[4 * i + 1],
-        c: l[4 * i + 2],
-        d: l[4 * i + 3],
+    Pair {
+        a: l[2 * i],
+        b: l[2 * i + 1],
     }
 }
 
 // Entry i of each lane is set.
-pub fn put(l: &mut [f64], i: usize, a: f64, b: f64, c: f64, d: f64)
-    requires { ⌜ (4 * i < length (now l)) × (4 * i + 1 < length (now l)) × (4 * i + 2 < length (now l)) × (4 * i + 3 < length (now l)) ⌝ }
-    ensures { λ _. ⌜ now (l .exit) ≡ putQuad (now (l .entry)) i (record { a = a; b = b; c = c; d = d }) ⌝ }
+pub fn put(l: &mut [f64], i: usize, a: f64, b: f64)
+    requires { ⌜ 2 * i + 1 < length (now l) ⌝ }
+    ensures { λ _. ⌜ now (l .exit) ≡ putPair (now (l .entry)) i (record { a = a; b = b }) ⌝ }
 {
-    l[4 * i] = a;
-    l[4 * i + 1] = b;
-    l[4 * i + 2] = c;
-    l[4 * i + 3] = d;
+    l[2 * i] = a;
+    l[2 * i + 1] = b;
 }
 
 // The first two taps.
-fn start(d: &mut [f64], a: f64, x: Quad, n: usize) -> Abreast
-    requires { ⌜ (1 < n) × (4 * n ≤ length (now d)) ⌝ }
-    ensures { λ r. ⌜ ((k : ℕ) → k < 4 → tapsOf k n (now (d .exit)) r ≡ start a (side k x) (lane k n (now (d .entry)))) ⌝ }
+fn start(d: &mut [f64], a: f64, x: Pair, n: usize) -> Abreast
+    requires { ⌜ (1 < n) × (2 * n ≤ length (now d)) ⌝ }
+    ensures { λ r. ⌜ ((k : ℕ) → k < 2 → tapsOf k n (now (d .exit)) r ≡ start a (side k x) (lane k n (now (d .entry)))) ⌝ }
 {
     let d1 = at(d, 1);
     let ma = fir::first_two(a, x.a, d1.a);
     let mb = fir::first_two(a, x.b, d1.b);
-    let mc = fir::first_two(a, x.c, d1.c);
-    let md = fir::first_two(a, x.d, d1.d);
-    put(d, 0, ma.e0, mb.e0, mc.e0, md.e0);
-    put(d, 1, ma.e1, mb.e1, mc.e1, md.e1);
+    put(d, 0, ma.e0, mb.e0);
+    put(d, 1, ma.e1, mb.e1);
     let on_a = ma.on;
     let on_b = mb.on;
-    let on_c = mc.on;
-    let on_d = md.on;
-    Abreast {
-        a: on_a,
-        b: on_b,
-        c: on_c,
-        d: on_d,
-    }
+    Abreast { a: on_a, b: on_b }
 }
 
 // Four taps from index i on: all are read, then made, then stored.
 fn group(d: &mut [f64], a: f64, c: &[f64], i: usize, s: Abreast) -> Abreast
-    requires { ⌜ (i + 3 < length (now c)) × (4 * length (now c) ≤ length (now d)) ⌝ }
-    ensures { λ r. ⌜ ((k : ℕ) → k < 4 → tapsOf k (length (now (c .entry))) (now (d .exit)) r ≡ group a (now (c .entry)) i (tapsOf k (length (now (c .entry))) (now (d .entry)) s)) ⌝ }
+    requires { ⌜ (i + 3 < length (now c)) × (2 * length (now c) ≤ length (now d)) ⌝ }
+    ensures { λ r. ⌜ ((k : ℕ) → k < 2 → tapsOf k (length (now (c .entry))) (now (d .exit)) r ≡ group a (now (c .entry)) i (tapsOf k (length (now (c .entry))) (now (d .entry)) s)) ⌝ }
 {
     let i1 = i + 1;
     let i2 = i + 2;
@@ -88,60 +72,44 @@ fn group(d: &mut [f64], a: f64, c: &[f64], i: usize, s: Abreast) -> Abreast
     let c3 = c[i3];
     let on_a = s.a;
     let on_b = s.b;
-    let on_c = s.c;
-    let on_d = s.d;
     let ma = fir::next_four(a, d0.a, d1.a, d2.a, d3.a, c0, c1, c2, c3, on_a);
     let mb = fir::next_four(a, d0.b, d1.b, d2.b, d3.b, c0, c1, c2, c3, on_b);
-    let mc = fir::next_four(a, d0.c, d1.c, d2.c, d3.c, c0, c1, c2, c3, on_c);
-    let md = fir::next_four(a, d0.d, d1.d, d2.d, d3.d, c0, c1, c2, c3, on_d);
-    put(d, i, ma.e0, mb.e0, mc.e0, md.e0);
-    put(d, i1, ma.e1, mb.e1, mc.e1, md.e1);
-    put(d, i2, ma.e2, mb.e2, mc.e2, md.e2);
-    put(d, i3, ma.e3, mb.e3, mc.e3, md.e3);
+    put(d, i, ma.e0, mb.e0);
+    put(d, i1, ma.e1, mb.e1);
+    put(d, i2, ma.e2, mb.e2);
+    put(d, i3, ma.e3, mb.e3);
     let next_a = ma.on;
     let next_b = mb.on;
-    let next_c = mc.on;
-    let next_d = md.on;
     Abreast {
         a: next_a,
         b: next_b,
-        c: next_c,
-        d: next_d,
     }
 }
 
 // One tap, at index i.
 fn tap(d: &mut [f64], a: f64, c: &[f64], i: usize, s: Abreast) -> Abreast
-    requires { ⌜ (i < length (now c)) × (4 * length (now c) ≤ length (now d)) ⌝ }
-    ensures { λ r. ⌜ ((k : ℕ) → k < 4 → tapsOf k (length (now (c .entry))) (now (d .exit)) r ≡ tap a (now (c .entry)) i (tapsOf k (length (now (c .entry))) (now (d .entry)) s)) ⌝ }
+    requires { ⌜ (i < length (now c)) × (2 * length (now c) ≤ length (now d)) ⌝ }
+    ensures { λ r. ⌜ ((k : ℕ) → k < 2 → tapsOf k (length (now (c .entry))) (now (d .exit)) r ≡ tap a (now (c .entry)) i (tapsOf k (length (now (c .entry))) (now (d .entry)) s)) ⌝ }
 {
     let d0 = at(d, i);
     let c0 = c[i];
     let on_a = s.a;
     let on_b = s.b;
-    let on_c = s.c;
-    let on_d = s.d;
     let ma = fir::next_one(a, d0.a, c0, on_a);
     let mb = fir::next_one(a, d0.b, c0, on_b);
-    let mc = fir::next_one(a, d0.c, c0, on_c);
-    let md = fir::next_one(a, d0.d, c0, on_d);
-    put(d, i, ma.e0, mb.e0, mc.e0, md.e0);
+    put(d, i, ma.e0, mb.e0);
     let next_a = ma.on;
     let next_b = mb.on;
-    let next_c = mc.on;
-    let next_d = md.on;
     Abreast {
         a: next_a,
         b: next_b,
-        c: next_c,
-        d: next_d,
     }
 }
 
 // The groups of four from index 2 on, as many as there are.
 fn groups(d: &mut [f64], a: f64, c: &[f64], first: Abreast) -> Abreast
-    requires { ⌜ (2 ≤ length (now c)) × (4 * length (now c) ≤ length (now d)) ⌝ }
-    ensures { λ r. ⌜ ((k : ℕ) → k < 4 → tapsOf k (length (now (c .entry))) (now (d .exit)) r
+    requires { ⌜ (2 ≤ length (now c)) × (2 * length (now c) ≤ length (now d)) ⌝ }
+    ensures { λ r. ⌜ ((k : ℕ) → k < 2 → tapsOf k (length (now (c .entry))) (now (d .exit)) r
         ≡ groups a (now (c .entry)) ((length (now (c .entry)) - 2) / 4) 2 (tapsOf k (length (now (c .entry))) (now (d .entry)) first)) ⌝ }
 {
     let mut s = first;
@@ -155,8 +123,8 @@ fn groups(d: &mut [f64], a: f64, c: &[f64], first: Abreast) -> Abreast
 
 // The taps from index `from` on, one by one.
 fn singles(d: &mut [f64], a: f64, c: &[f64], from: usize, first: Abreast) -> Abreast
-    requires { ⌜ (from ≤ length (now c)) × (4 * length (now c) ≤ length (now d)) ⌝ }
-    ensures { λ r. ⌜ ((k : ℕ) → k < 4 → tapsOf k (length (now (c .entry))) (now (d .exit)) r
+    requires { ⌜ (from ≤ length (now c)) × (2 * length (now c) ≤ length (now d)) ⌝ }
+    ensures { λ r. ⌜ ((k : ℕ) → k < 2 → tapsOf k (length (now (c .entry))) (now (d .exit)) r
         ≡ singles a (now (c .entry)) (length (now (c .entry)) - from) from (tapsOf k (length (now (c .entry))) (now (d .entry)) first)) ⌝ }
 {
     let mut s = first;
@@ -169,9 +137,9 @@ fn singles(d: &mut [f64], a: f64, c: &[f64], from: usize, first: Abreast) -> Abr
 }
 
 // The answer of each lane, whose taps after it are left in d.
-pub fn fir(d: &mut [f64], x: Quad, alpha: f64, c: &[f64]) -> Quad
-    requires { ⌜ (2 ≤ length (now c)) × (4 * length (now c) ≤ length (now d)) ⌝ }
-    ensures { λ r. ⌜ ((k : ℕ) → k < 4 → record { d = lane k (length (now (c .entry))) (now (d .exit)); y = side k r }
+pub fn fir(d: &mut [f64], x: Pair, alpha: f64, c: &[f64]) -> Pair
+    requires { ⌜ (2 ≤ length (now c)) × (2 * length (now c) ≤ length (now d)) ⌝ }
+    ensures { λ r. ⌜ ((k : ℕ) → k < 2 → record { d = lane k (length (now (c .entry))) (now (d .exit)); y = side k r }
         ≡ firOf alpha (side k x) (now (c .entry)) (lane k (length (now (c .entry))) (now (d .entry)))) ⌝ }
 {
     let n = c.len();
@@ -179,10 +147,8 @@ pub fn fir(d: &mut [f64], x: Quad, alpha: f64, c: &[f64]) -> Quad
     let grouped = groups(d, alpha, c, first);
     let from = 2 + (n - 2) / 4 * 4;
     let s = singles(d, alpha, c, from, grouped);
-    Quad {
+    Pair {
         a: s.a.y0 + s.a.y1,
         b: s.b.y0 + s.b.y1,
-        c: s.c.y0 + s.c.y1,
-        d: s.d.y0 + s.d.y1,
     }
 }

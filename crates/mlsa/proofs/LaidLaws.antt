@@ -9,8 +9,8 @@ use lib.Ieee.{Float, nan}
 use Rattle.number.specs.F64.{_‼_, 0f}
 use Rattle.number.specs.Lists.{row, putRow}
 use Rattle.fir.specs.Fir.{Filtered, firOf}
-use Rattle.lanes.specs.declared.Quad.{Quad}
-use Rattle.lanes.specs.Lane.{lane, side, quadAt}
+use Rattle.lanes.specs.declared.Pair.{Pair}
+use Rattle.lanes.specs.Lane.{lane, side, pairAt}
 use Rattle.lanes.proofs.LaneLaws.{length-lane}
 use Rattle.mlsa.specs.declared.Sums.{Sums}
 use Rattle.mlsa.specs.Mlsa.{Part, part, weighed, secondRow, downward, passed, ended, df2Of}
@@ -75,80 +75,86 @@ module _ (n : ℕ) where
 
 -- ---- the second part
 
-lanes-each : (n : ℕ) (four : List Float) → Each n (lanesOf n four)
-lanes-each n four = (length-lane 0 n four, (length-lane 1 n four, (length-lane 2 n four, (length-lane 3 n four, tt))))
-
-module _ (alpha : Float) (c : List Float) where
-  -- a row of some that stand one after the other, by the filter f that it comes to
-  second-joined : (rs : List (List Float)) (rest d2 : List Float) (s : Sums) (k : ℕ) (f : Filtered) → Each (length c) rs → k < length rs
-      → f ≡ firOf alpha (d2 ‼ k) c (getD rs k [])
-      → secondRow alpha c (suc k) (part (joined rs rest) d2 s) ≡ part (joined (set rs k (f .d)) rest) (set d2 (suc k) (f .y)) (weighed (suc k) (f .y) s)
-  unfolding secondRow
-  second-joined rs rest d2 s k f e h made =
-      let before : suc k - 1 ≡ k = omega arith in
-      rw (before, row-joined (length c) rs rest k e h, ← made, put-joined (length c) rs rest (f .d) k e h) refl
-
-  -- row 5 stands behind the lanes
-  fifth-laid : (four d21 d22 : List Float) (s : Sums) → 5 * length c ≤ length d21
-      → secondRow alpha c 5 (part (flat (length c) four d21) d22 s)
-      ≡ (let p = secondRow alpha c 5 (part d21 d22 s) in part (flat (length c) four (p .d1)) (p .d2) (p .sums))
-  unfolding secondRow flat
-  fifth-laid four d21 d22 s long =
-      let n = length c in
-      let each = lanes-each n four in
-      let front : length (take (4 * n) d21) ≡ 4 * n = length-take-le (4 * n) d21 (omega arith) in
-      let f = firOf alpha (d22 ‼ 4) c (row (4 * n) (4 * n + n) d21) in
-      let behind = f .d ++ drop (4 * n + n - 4 * n) (drop (4 * n) d21) in
-      rw (drop-joined n (lanesOf n four) (drop (4 * n) d21) each, take-joined n (lanesOf n four) (drop (4 * n) d21) behind each, drop-at (take (4 * n) d21) behind (4 * n) front) refl
+lanes-each : (n : ℕ) (first second : List Float) → Each n (lanesOf n first second)
+lanes-each n first second = (length-lane 0 n first, (length-lane 1 n first, (length-lane 0 n second, (length-lane 1 n second, tt))))
 
 above : (l : List Float) (j k : ℕ) (v : Float) → k < j → l ‼ k ≡ set l j v ‼ k
 above l j k v h = sym (getD-set-other l j k v nan (λ e. omega arith))
 
-module _ (alpha : Float) (c four after d22 : List Float) (heads y : Quad) (s : Sums) (rest : List Float) where
-  -- rows 4 to 1 in lanes: each reads the answer of the row before it as it was
-  four-laid : heads ≡ quadAt d22 0
-      → ((k : ℕ) → k < 4 → _≡_ {A = Filtered} (record { d = lane k (length c) after; y = side k y }) (firOf alpha (side k heads) c (lane k (length c) four)))
-      → downward (secondRow alpha c) 4 (part (joined (lanesOf (length c) four) rest) d22 s) ≡ answered y (part (joined (lanesOf (length c) after) rest) d22 s)
-  unfolding downward
-  four-laid at made =
+module _ (alpha : Float) (c : List Float) where
+  -- a row of some that stand one after the other, by its head x and the filter f that it comes to
+  second-joined : (rs : List (List Float)) (rest d2 : List Float) (s : Sums) (k : ℕ) (x : Float) (f : Filtered) → Each (length c) rs → k < length rs
+      → f ≡ firOf alpha x c (getD rs k []) → x ≡ d2 ‼ k
+      → secondRow alpha c (suc k) (part (joined rs rest) d2 s) ≡ part (joined (set rs k (f .d)) rest) (set d2 (suc k) (f .y)) (weighed (suc k) (f .y) s)
+  unfolding secondRow
+  second-joined rs rest d2 s k x f e h made head =
+      let before : suc k - 1 ≡ k = omega arith in
+      let here : f ≡ firOf alpha (d2 ‼ k) c (getD rs k []) = made ∙ ap (λ (z : Float). firOf alpha z c (getD rs k [])) head in
+      rw (before, row-joined (length c) rs rest k e h, ← here, put-joined (length c) rs rest (f .d) k e h) refl
+
+  -- row 5 stands behind the lanes
+  fifth-laid : (first second d21 d22 : List Float) (s : Sums) → 5 * length c ≤ length d21
+      → secondRow alpha c 5 (part (flat (length c) first second d21) d22 s)
+      ≡ (let p = secondRow alpha c 5 (part d21 d22 s) in part (flat (length c) first second (p .d1)) (p .d2) (p .sums))
+  unfolding secondRow flat
+  fifth-laid first second d21 d22 s long =
       let n = length c in
-      let was = lanesOf n four in
-      let f : ℕ → Filtered = λ k. record { d = lane k n after; y = side k y } in
-      let reads : (k : ℕ) → k < 4 → (d2 : List Float) → side k (quadAt d22 0) ≡ d2 ‼ k → f k ≡ firOf alpha (d2 ‼ k) c (lane k n four) =
-      λ k h d2 e. made k h ∙ ap (λ (x : Float). firOf alpha x c (lane k n four)) (ap (side k) at ∙ e) in
-      let d4 = set d22 4 (y .d) in
-      let d3 = set d4 3 (y .c) in
-      let d2 = set d3 2 (y .b) in
-      let s4 = weighed 4 (y .d) s in
-      let s3 = weighed 3 (y .c) s4 in
-      let s2 = weighed 2 (y .b) s3 in
-      let now0 = length-lane 0 n four in
-      let now1 = length-lane 1 n four in
-      let now2 = length-lane 2 n four in
-      let new1 = length-lane 1 n after in
-      let new2 = length-lane 2 n after in
-      let new3 = length-lane 3 n after in
-      ap (downward (secondRow alpha c) 3) (second-joined alpha c was rest d22 s 3 (f 3) (lanes-each n four) (omega arith) (reads 3 (omega arith) d22 refl))
+      let rows = lanesOf n first second in
+      let each = lanes-each n first second in
+      let front : length (take (4 * n) d21) ≡ 4 * n = length-take-le (4 * n) d21 (omega arith) in
+      let f = firOf alpha (d22 ‼ 4) c (row (4 * n) (4 * n + n) d21) in
+      let behind = f .d ++ drop (4 * n + n - 4 * n) (drop (4 * n) d21) in
+      rw (drop-joined n rows (drop (4 * n) d21) each, take-joined n rows (drop (4 * n) d21) behind each, drop-at (take (4 * n) d21) behind (4 * n) front) refl
+
+module _ (alpha : Float) (c first first' second second' d22 : List Float) (heads12 heads34 y12 y34 : Pair) (s : Sums) (rest : List Float) where
+  -- rows 4 to 1 in lanes: each reads the answer of the row before it as it was
+  four-laid : heads12 ≡ pairAt d22 0 → heads34 ≡ pairAt d22 1
+      → ((k : ℕ) → k < 2 → _≡_ {A = Filtered} (record { d = lane k (length c) first'; y = side k y12 }) (firOf alpha (side k heads12) c (lane k (length c) first)))
+      → ((k : ℕ) → k < 2 → _≡_ {A = Filtered} (record { d = lane k (length c) second'; y = side k y34 }) (firOf alpha (side k heads34) c (lane k (length c) second)))
+      → downward (secondRow alpha c) 4 (part (joined (lanesOf (length c) first second) rest) d22 s) ≡ answered y12 y34 (part (joined (lanesOf (length c) first' second') rest) d22 s)
+  unfolding downward
+  four-laid at12 at34 made12 made34 =
+      let n = length c in
+      let r4 = lanesOf n first second in
+      let r3 = set r4 3 (lane 1 n second') in
+      let r2 = set r3 2 (lane 0 n second') in
+      let r1 = set r2 1 (lane 1 n first') in
+      let d3 = set d22 4 (y34 .b) in
+      let d2 = set d3 3 (y34 .a) in
+      let d1 = set d2 2 (y12 .b) in
+      let s3 = weighed 4 (y34 .b) s in
+      let s2 = weighed 3 (y34 .a) s3 in
+      let s1 = weighed 2 (y12 .b) s2 in
+      let old0 = length-lane 0 n first in
+      let old1 = length-lane 1 n first in
+      let old2 = length-lane 0 n second in
+      let new1 = length-lane 1 n first' in
+      let new2 = length-lane 0 n second' in
+      let new3 = length-lane 1 n second' in
+      let above4 : (k : ℕ) → k < 4 → d22 ‼ k ≡ d3 ‼ k = λ k h. above d22 4 k (y34 .b) h in
+      let above3 : (k : ℕ) → k < 3 → d22 ‼ k ≡ d2 ‼ k = λ k h. above4 k (omega arith) ∙ above d3 3 k (y34 .a) h in
+      let above2 : d22 ‼ 0 ≡ d1 ‼ 0 = above3 0 (omega arith) ∙ above d2 2 0 (y12 .b) (omega arith) in
+      ap (downward (secondRow alpha c) 3)
+      (second-joined alpha c r4 rest d22 s 3 _ _ (lanes-each n first second) (omega arith) (made34 1 (omega arith)) (ap (side 1) at34))
       ∙ ap (downward (secondRow alpha c) 2)
-      (second-joined alpha c (set was 3 (lane 3 n after)) rest d4 s4 2 (f 2) (now0, (now1, (now2, (new3, tt)))) (omega arith)
-      (reads 2 (omega arith) d4 (above d22 4 2 (y .d) (omega arith))))
+      (second-joined alpha c r3 rest d3 s3 2 _ _ (old0, (old1, (old2, (new3, tt)))) (omega arith) (made34 0 (omega arith)) (ap (side 0) at34 ∙ above4 2 (omega arith)))
       ∙ ap (downward (secondRow alpha c) 1)
-      (second-joined alpha c (set (set was 3 (lane 3 n after)) 2 (lane 2 n after)) rest d3 s3 1 (f 1) (now0, (now1, (new2, (new3, tt)))) (omega arith)
-      (reads 1 (omega arith) d3 (above d22 4 1 (y .d) (omega arith) ∙ above d4 3 1 (y .c) (omega arith))))
-      ∙ second-joined alpha c (set (set (set was 3 (lane 3 n after)) 2 (lane 2 n after)) 1 (lane 1 n after)) rest d2 s2 0 (f 0) (now0, (new1, (new2, (new3, tt)))) (omega arith)
-      (reads 0 (omega arith) d2 (above d22 4 0 (y .d) (omega arith) ∙ above d4 3 0 (y .c) (omega arith) ∙ above d3 2 0 (y .b) (omega arith)))
+      (second-joined alpha c r2 rest d2 s2 1 _ _ (old0, (old1, (new2, (new3, tt)))) (omega arith) (made12 1 (omega arith)) (ap (side 1) at12 ∙ above3 1 (omega arith)))
+      ∙ second-joined alpha c r1 rest d1 s1 0 _ _ (old0, (new1, (new2, (new3, tt)))) (omega arith) (made12 0 (omega arith)) (ap (side 0) at12 ∙ above2)
 
 -- both: row 5, then the lanes
-pub df2-laid : (alpha : Float) (c four four' d21 d21' d22 d22₁ d22' : List Float) (x r : Float) (s : Sums) (heads y : Quad) → 6 * length c ≤ length d21
-    → part d21' d22₁ s ≡ secondRow alpha c 5 (part d21 d22 (record { x = x; out = 0f })) → heads ≡ quadAt d22₁ 0
-    → ((k : ℕ) → k < 4 → _≡_ {A = Filtered} (record { d = lane k (length c) four'; y = side k y }) (firOf alpha (side k heads) c (lane k (length c) four)))
-    → ((l : List Float) → passed l d22' r ≡ ended (answered y (part l d22₁ s)))
-    → passed (flat (length c) four' d21') d22' r ≡ df2Of alpha c (flat (length c) four d21) d22 x
+pub df2-laid : (alpha : Float) (c first first' second second' d21 d21' d22 d22₁ d22' : List Float) (x r : Float) (s : Sums) (heads12 heads34 y12 y34 : Pair)
+    → 6 * length c ≤ length d21
+    → part d21' d22₁ s ≡ secondRow alpha c 5 (part d21 d22 (record { x = x; out = 0f })) → heads12 ≡ pairAt d22₁ 0 → heads34 ≡ pairAt d22₁ 1
+    → ((k : ℕ) → k < 2 → _≡_ {A = Filtered} (record { d = lane k (length c) first'; y = side k y12 }) (firOf alpha (side k heads12) c (lane k (length c) first)))
+    → ((k : ℕ) → k < 2 → _≡_ {A = Filtered} (record { d = lane k (length c) second'; y = side k y34 }) (firOf alpha (side k heads34) c (lane k (length c) second)))
+    → ((l : List Float) → passed l d22' r ≡ ended (answered y12 y34 (part l d22₁ s)))
+    → passed (flat (length c) first' second' d21') d22' r ≡ df2Of alpha c (flat (length c) first second d21) d22 x
 unfolding df2Of downward flat
-df2-laid alpha c four four' d21 d21' d22 d22₁ d22' x r s heads y long fifth at made weighs =
+df2-laid alpha c first first' second second' d21 d21' d22 d22₁ d22' x r s heads12 heads34 y12 y34 long fifth at12 at34 made12 made34 weighs =
     let n = length c in
-    let first : Sums = record { x = x; out = 0f } in
-    let laid : secondRow alpha c 5 (part (flat n four d21) d22 first) ≡ part (flat n four d21') d22₁ s =
-    fifth-laid alpha c four d21 d22 first (omega arith) ∙ ap (λ (p : Part). part (flat n four (p .d1)) (p .d2) (p .sums)) (sym fifth) in
-    weighs (flat n four' d21')
-    ∙ ap ended (sym (ap (downward (secondRow alpha c) 4) laid ∙ four-laid alpha c four four' d22₁ heads y s (drop (4 * n) d21') at made))
+    let begun : Sums = record { x = x; out = 0f } in
+    let laid : secondRow alpha c 5 (part (flat n first second d21) d22 begun) ≡ part (flat n first second d21') d22₁ s =
+    fifth-laid alpha c first second d21 d22 begun (omega arith) ∙ ap (λ (p : Part). part (flat n first second (p .d1)) (p .d2) (p .sums)) (sym fifth) in
+    let lanes = four-laid alpha c first first' second second' d22₁ heads12 heads34 y12 y34 s (drop (4 * n) d21') at12 at34 made12 made34 in
+    weighs (flat n first' second' d21') ∙ ap ended (sym (ap (downward (secondRow alpha c) 4) laid ∙ lanes))

@@ -28,6 +28,12 @@ row-within m k n l h fits =
     let before : suc k * n ≤ m * n = mul-le-mul-right n (omega arith) in
     omega arith
 
+-- and so does one of m rows that begin further on
+pub rows-from : (m k n from l : ℕ) → k < m → from + m * n ≤ l → from + k * n + n ≤ l
+rows-from m k n from l h fits =
+    let within : k * n + n ≤ m * n = row-within m k n (m * n) h (omega arith) in
+    omega arith
+
 -- both parts, by what each comes to
 pub df-of : (alpha : Float) (c : List Float) (f : MelLogSpectrumApproximation) (x y r : Float) (d11 d12 d21 d22 : List Float)
     → passed d11 d12 y ≡ df1Of alpha c (f .d11) (f .d12) x → passed d21 d22 r ≡ df2Of alpha c (f .d21) (f .d22) y

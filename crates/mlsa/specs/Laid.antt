@@ -1,11 +1,11 @@
--- The first four rows of the taps of the second part laid side by side in lanes. Assumes nothing.
+-- The first four rows of the taps of the second part laid side by side in two pairs of lanes. Assumes nothing.
 use mathlib.Core.Path.{_≡_, refl}
 use mathlib.Core.List.{List, [], _∷_, _++_}
 use Prim.Native.Nat.{ℕ, _*_}
 use lib.ListN.{drop, set, replicate}
 use lib.Ieee.{Float, ofBits, add, mul, neg}
 use Rattle.number.specs.F64.{0f, ½f, 1f, 2f}
-use Rattle.lanes.specs.declared.Quad.{Quad}
+use Rattle.lanes.specs.declared.Pair.{Pair}
 use Rattle.lanes.specs.Lane.{lane}
 use Rattle.mlsa.specs.declared.Sums.{Sums}
 use Rattle.mlsa.specs.Mlsa.{Part, part, weighed}
@@ -15,35 +15,38 @@ abbrev pub joined : List (List Float) → List Float → List Float
 joined [] rest = rest
 joined (r ∷ rs) rest = r ++ joined rs rest
 
--- the four lanes of n taps as rows
-abbrev pub lanesOf : ℕ → List Float → List (List Float)
-lanesOf n four = lane 0 n four ∷ lane 1 n four ∷ lane 2 n four ∷ lane 3 n four ∷ []
+-- the lanes of n taps of both pairs as rows
+abbrev pub lanesOf : ℕ → List Float → List Float → List (List Float)
+lanesOf n first second = lane 0 n first ∷ lane 1 n first ∷ lane 0 n second ∷ lane 1 n second ∷ []
 
 -- the taps d21 with their first four rows as the lanes have them
-unfoldable pub flat : ℕ → List Float → List Float → List Float
-flat n four d21 = joined (lanesOf n four) (drop (4 * n) d21)
+unfoldable pub flat : ℕ → List Float → List Float → List Float → List Float
+flat n first second d21 = joined (lanesOf n first second) (drop (4 * n) d21)
 
 -- rows 0, ½ and 1, 2 and so on of two taps each, and one more tap
-pub laid-example : flat 2 (0f ∷ 1f ∷ 2f ∷ 1f ∷ ½f ∷ 2f ∷ 0f ∷ ½f ∷ []) (replicate 8 0f ++ (2f ∷ [])) ≡ 0f ∷ ½f ∷ 1f ∷ 2f ∷ 2f ∷ 0f ∷ 1f ∷ ½f ∷ 2f ∷ []
+pub laid-example : flat 2 (0f ∷ 1f ∷ ½f ∷ 2f ∷ []) (2f ∷ 1f ∷ 0f ∷ ½f ∷ []) (replicate 8 0f ++ (2f ∷ [])) ≡ 0f ∷ ½f ∷ 1f ∷ 2f ∷ 2f ∷ 0f ∷ 1f ∷ ½f ∷ 2f ∷ []
 unfolding flat lane
 laid-example = refl
 
 -- a part with the answers of rows 4 to 1, one for each lane, weighed
-abbrev pub answered : Quad → Part → Part
-answered y p =
-    part (p .d1) (set (set (set (set (p .d2) 4 (y .d)) 3 (y .c)) 2 (y .b)) 1 (y .a))
-    (weighed 1 (y .a) (weighed 2 (y .b) (weighed 3 (y .c) (weighed 4 (y .d) (p .sums)))))
+abbrev pub answered : Pair → Pair → Part → Part
+answered y12 y34 p =
+    part (p .d1) (set (set (set (set (p .d2) 4 (y34 .b)) 3 (y34 .a)) 2 (y12 .b)) 1 (y12 .a))
+    (weighed 1 (y12 .a) (weighed 2 (y12 .b) (weighed 3 (y34 .a) (weighed 4 (y34 .b) (p .sums)))))
 
 -- zeros but for row 1, whose constant is just below ½: twice that is added to the sample and to the sum
 abbrev none : Sums
 none = record { x = 0f; out = 0f }
 
-abbrev twice : Quad
-twice = record { a = 2f; b = 0f; c = 0f; d = 0f }
+abbrev twice : Pair
+twice = record { a = 2f; b = 0f }
 
-pub answers-stand : answered twice (part [] (replicate 6 1f) none) .d2 ≡ 1f ∷ 2f ∷ 0f ∷ 0f ∷ 0f ∷ 1f ∷ []
+abbrev zeros : Pair
+zeros = record { a = 0f; b = 0f }
+
+pub answers-stand : answered twice zeros (part [] (replicate 6 1f) none) .d2 ≡ 1f ∷ 2f ∷ 0f ∷ 0f ∷ 0f ∷ 1f ∷ []
 answers-stand = refl
 
-pub answers-weighed : answered twice (part [] (replicate 6 1f) none) .sums ≡ weighed 1 2f none
+pub answers-weighed : answered twice zeros (part [] (replicate 6 1f) none) .sums ≡ weighed 1 2f none
 unfolding weighed ofBits add mul neg
 answers-weighed = refl

@@ -6,7 +6,7 @@ ghost use Prim.Native.Nat.{_*_, _≤_, _<_};
 ghost use lib.ListN.{length};
 ghost use Rattle.mlsa.specs.Mlsa.{part, weighed, firstRow, secondRow, passed, ended, df1Of, df2Of, filter, dfOf, freshFilter};
 ghost use Rattle.mlsa.specs.Laid.{flat, answered};
-use lanes::Quad;
+use lanes::Pair;
 
 pub mod layout;
 
@@ -109,47 +109,52 @@ fn second_row(d21: &mut [f64], d22: &mut [f64], i: usize, s: Sums, alpha: f64, c
 }
 
 // The answers of rows 4 to 1, weighed in this order, and the sample that the second part passes on.
-fn answer(d22: &mut [f64], y: Quad, s: Sums) -> f64
+fn answer(d22: &mut [f64], y12: Pair, y34: Pair, s: Sums) -> f64
     requires { ⌜ length (now d22) ≡ 6 ⌝ }
-    ensures { λ r. ⌜ ((l : List Float) → passed l (now (d22 .exit)) r ≡ ended (answered y (part l (now (d22 .entry)) s))) ⌝ }
+    ensures { λ r. ⌜ ((l : List Float) → passed l (now (d22 .exit)) r ≡ ended (answered y12 y34 (part l (now (d22 .entry)) s))) ⌝ }
 {
-    let s4 = weigh(4, y.d, s);
-    let s3 = weigh(3, y.c, s4);
-    let s2 = weigh(2, y.b, s3);
-    let s1 = weigh(1, y.a, s2);
-    d22[4] = y.d;
-    d22[3] = y.c;
-    d22[2] = y.b;
-    d22[1] = y.a;
+    let s4 = weigh(4, y34.b, s);
+    let s3 = weigh(3, y34.a, s4);
+    let s2 = weigh(2, y12.b, s3);
+    let s1 = weigh(1, y12.a, s2);
+    d22[4] = y34.b;
+    d22[3] = y34.a;
+    d22[2] = y12.b;
+    d22[1] = y12.a;
     d22[0] = s1.x;
     s1.x + s1.out
 }
 
-// The second part, with rows 1 to 4 at once: each reads the answer of the row before it as it was, so that row 5 goes first.
+// The second part, with rows 1 and 2 at once, and rows 3 and 4: each reads the answer of the row before it as it was, so that row 5 goes first.
 fn df2_laid(
-    four: &mut [f64],
+    first: &mut [f64],
+    second: &mut [f64],
     d21: &mut [f64],
     d22: &mut [f64],
     x: f64,
     alpha: f64,
     c: &[f64],
 ) -> f64
-    requires { ⌜ (length (now d22) ≡ 6) × (2 ≤ length (now c)) × (4 * length (now c) ≤ length (now four)) × (6 * length (now c) ≤ length (now d21)) ⌝ }
-    ensures { λ r. ⌜ passed (flat (length (now (c .entry))) (now (four .exit)) (now (d21 .exit))) (now (d22 .exit)) r
-        ≡ df2Of alpha (now (c .entry)) (flat (length (now (c .entry))) (now (four .entry)) (now (d21 .entry))) (now (d22 .entry)) x ⌝ }
+    requires { ⌜ (2 * length (now c) ≤ length (now first)) × (2 * length (now c) ≤ length (now second)) ⌝ }
+    requires { ⌜ (length (now d22) ≡ 6) × (2 ≤ length (now c)) × (6 * length (now c) ≤ length (now d21)) ⌝ }
+    ensures { λ r. ⌜ passed (flat (length (now (c .entry))) (now (first .exit)) (now (second .exit)) (now (d21 .exit))) (now (d22 .exit)) r
+        ≡ df2Of alpha (now (c .entry)) (flat (length (now (c .entry))) (now (first .entry)) (now (second .entry)) (now (d21 .entry))) (now (d22 .entry)) x ⌝ }
 {
-    let first = Sums { x, out: 0.0 };
-    let s = second_row(d21, d22, 5, first, alpha, c);
-    let heads = lanes::at(d22, 0);
-    let y = lanes::fir(four, heads, alpha, c);
-    answer(d22, y, s)
+    let begun = Sums { x, out: 0.0 };
+    let s = second_row(d21, d22, 5, begun, alpha, c);
+    let heads12 = lanes::at(d22, 0);
+    let heads34 = lanes::at(d22, 1);
+    let y12 = lanes::fir(first, heads12, alpha, c);
+    let y34 = lanes::fir(second, heads34, alpha, c);
+    answer(d22, y12, y34, s)
 }
 
-// The sample after both parts, with the first four rows of d21 laid side by side in `four`.
+// The sample after both parts, with the first four rows of d21 laid side by side in two pairs.
 pub fn df_laid(
     d11: &mut [f64],
     d12: &mut [f64],
-    four: &mut [f64],
+    first: &mut [f64],
+    second: &mut [f64],
     d21: &mut [f64],
     d22: &mut [f64],
     x: f64,
@@ -157,10 +162,10 @@ pub fn df_laid(
     c: &[f64],
 ) -> f64
     requires { ⌜ (length (now d11) ≡ 6) × (length (now d12) ≡ 6) × (length (now d22) ≡ 6) ⌝ }
-    requires { ⌜ (2 ≤ length (now c)) × (4 * length (now c) ≤ length (now four)) × (6 * length (now c) ≤ length (now d21)) ⌝ }
-    ensures { λ r. ⌜ record { sample = r; state = filter (now (d11 .exit)) (now (d12 .exit)) (flat (length (now (c .entry))) (now (four .exit)) (now (d21 .exit))) (now (d22 .exit)) }
-        ≡ dfOf alpha (now (c .entry)) (filter (now (d11 .entry)) (now (d12 .entry)) (flat (length (now (c .entry))) (now (four .entry)) (now (d21 .entry))) (now (d22 .entry))) x ⌝ }
+    requires { ⌜ (2 * length (now c) ≤ length (now first)) × (2 * length (now c) ≤ length (now second)) × (2 ≤ length (now c)) × (6 * length (now c) ≤ length (now d21)) ⌝ }
+    ensures { λ r. ⌜ record { sample = r; state = filter (now (d11 .exit)) (now (d12 .exit)) (flat (length (now (c .entry))) (now (first .exit)) (now (second .exit)) (now (d21 .exit))) (now (d22 .exit)) }
+        ≡ dfOf alpha (now (c .entry)) (filter (now (d11 .entry)) (now (d12 .entry)) (flat (length (now (c .entry))) (now (first .entry)) (now (second .entry)) (now (d21 .entry))) (now (d22 .entry))) x ⌝ }
 {
     let y = df1(d11, d12, x, alpha, c);
-    df2_laid(four, d21, d22, y, alpha, c)
+    df2_laid(first, second, d21, d22, y, alpha, c)
 }

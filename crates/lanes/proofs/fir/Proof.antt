@@ -32,9 +32,9 @@ singles-requires c κs = search needs
 
 same-length : tie.Need-same-length
 same-length c =
-    let first : length (c .before .before .before .before .before .before .before .before .before .before .before .before .before .before .start .last .0) ≡ length (c .before .before .before .before .before .before .before .before .before .before .before .before .before .before .before .before .before .before .args .d .now) = c .before .before .before .before .before .before .before .before .before .before .before .before .before .before .start .kept .0 in
-    let grouped : length (c .before .before .before .before .before .before .before .before .before .before .groups .last .0) ≡ length (c .before .before .before .before .before .before .before .before .before .before .before .before .before .before .start .last .0) = c .before .before .before .before .before .before .before .before .before .before .groups .kept .0 in
-    let single : length (c .before .before .before .before .before .before .singles .last .0) ≡ length (c .before .before .before .before .before .before .before .before .before .before .groups .last .0) = c .before .before .before .before .before .before .singles .kept .0 in
+    let first : length (c .before .before .before .before .before .before .before .before .before .before .before .before .start .last .0) ≡ length (c .before .before .before .before .before .before .before .before .before .before .before .before .before .before .before .before .args .d .now) = c .before .before .before .before .before .before .before .before .before .before .before .before .start .kept .0 in
+    let grouped : length (c .before .before .before .before .before .before .before .before .groups .last .0) ≡ length (c .before .before .before .before .before .before .before .before .before .before .before .before .start .last .0) = c .before .before .before .before .before .before .before .before .groups .kept .0 in
+    let single : length (c .before .before .before .before .singles .last .0) ≡ length (c .before .before .before .before .before .before .before .before .groups .last .0) = c .before .before .before .before .singles .kept .0 in
     omega arith
 
 -- the taps after it, and the sum of the two running sums
@@ -44,12 +44,12 @@ filtered t = record { d = t .d; y = t .on .y0 ⊕ t .on .y1 }
 returns : tie.Need-returns
 unfolding firOf
 returns c =
-    let given = c .before .before .before .before .before .before .before .before .before .before .before .before .before .before .before .before .before .before .args in
+    let given = c .before .before .before .before .before .before .before .before .before .before .before .before .before .before .before .before .args in
     let n = length (given .c .now) in
-    let s = c .before .before .before .before .before .before .singles .result in
-    let made : (k : ℕ) → k < 4 → filtered (record { d = lane k n (c .before .before .before .before .before .before .singles .last .0); on = sideOn k s }) ≡ firOf (given .alpha) (side k (given .x)) (given .c .now) (lane k n (given .d .now)) =
-    λ k h. ap filtered (taps-by _ _ _ (lane k n (given .d .now)) n _ _ _ (length-lane k n (given .d .now)) (c .before .before .before .before .before .before .before .before .before .before .before .before .before .before .before .before .before .before .pre .0) (c .before .before .before .before .before .before .before .before .before .before .before .before .before .before .start .ensures k h) (c .before .before .before .before .before .before .before .before .before .before .groups .ensures k h) (c .before .before .before .before .before .before .singles .ensures k h)) in
-    each-lane _ (made 0 (omega arith)) (made 1 (omega arith)) (made 2 (omega arith)) (made 3 (omega arith))
+    let s = c .before .before .before .before .singles .result in
+    let made : (k : ℕ) → k < 2 → filtered (record { d = lane k n (c .before .before .before .before .singles .last .0); on = sideOn k s }) ≡ firOf (given .alpha) (side k (given .x)) (given .c .now) (lane k n (given .d .now)) =
+    λ k h. ap filtered (taps-by _ _ _ (lane k n (given .d .now)) n _ _ _ (length-lane k n (given .d .now)) (c .before .before .before .before .before .before .before .before .before .before .before .before .before .before .before .before .pre .0) (c .before .before .before .before .before .before .before .before .before .before .before .before .start .ensures k h) (c .before .before .before .before .before .before .before .before .groups .ensures k h) (c .before .before .before .before .singles .ensures k h)) in
+    each-lane _ (made 0 (omega arith)) (made 1 (omega arith))
 
 pub fir-spec : {M : Type 1} → statement M
 fir-spec =

@@ -6,7 +6,7 @@ use native.Mathlib.Omega.{arith}
 use lib.ListN.{length}
 use Rattle.lanes.specs.Lane.{lane}
 use Rattle.lanes.proofs.LaneLaws.{each-lane}
-use Rattle.lanes.proofs.TapLaws.{quad-read, four-put, group-stored}
+use Rattle.lanes.proofs.TapLaws.{pair-read, four-put, group-stored}
 use Rattle.lanes.proofs.group.Statement.{statement}
 use Rattle.lanes.proofs.group.Tie as tie
 
@@ -61,38 +61,32 @@ next-four-requires c κs = search needs
 next-four-requires-2 : tie.Need-next-four-requires-2
 next-four-requires-2 c κs = search needs
 
-next-four-requires-3 : tie.Need-next-four-requires-3
-next-four-requires-3 c κs = search needs
-
-next-four-requires-4 : tie.Need-next-four-requires-4
-next-four-requires-4 c κs = search needs
-
 put-requires : tie.Need-put-requires
 put-requires c κs =
-    let fits = c .before .before .before .before .before .before .before .before .before .before .before .before .before .before .before .before .before .before .before .before .before .before .before .pre .0 in
-    let long = c .before .before .before .before .before .before .before .before .before .before .before .before .before .before .before .before .before .before .before .before .before .before .before .pre .1 in
+    let fits = c .before .before .before .before .before .before .before .before .before .before .before .before .before .before .before .before .before .before .before .pre .0 in
+    let long = c .before .before .before .before .before .before .before .before .before .before .before .before .before .before .before .before .before .before .before .pre .1 in
     omega arith
 
 put-requires-2 : tie.Need-put-requires-2
 put-requires-2 c κs =
-    let fits = c .before .before .before .before .before .before .before .before .before .before .before .before .before .before .before .before .before .before .before .before .before .before .before .before .before .before .before .pre .0 in
-    let long = c .before .before .before .before .before .before .before .before .before .before .before .before .before .before .before .before .before .before .before .before .before .before .before .before .before .before .before .pre .1 in
-    let kept-put : length (c .before .before .before .put .last .0) ≡ length (c .before .before .before .before .before .before .before .before .before .before .before .before .before .before .before .before .before .before .before .before .before .before .before .before .before .before .before .args .d .now) = c .before .before .before .put .kept .0 in
+    let fits = c .before .before .before .before .before .before .before .before .before .before .before .before .before .before .before .before .before .before .before .before .before .before .before .pre .0 in
+    let long = c .before .before .before .before .before .before .before .before .before .before .before .before .before .before .before .before .before .before .before .before .before .before .before .pre .1 in
+    let kept-put : length (c .before .before .before .put .last .0) ≡ length (c .before .before .before .before .before .before .before .before .before .before .before .before .before .before .before .before .before .before .before .before .before .before .before .args .d .now) = c .before .before .before .put .kept .0 in
     omega arith
 
 put-requires-3 : tie.Need-put-requires-3
 put-requires-3 c κs =
-    let fits = c .before .before .before .before .before .before .before .before .before .before .before .before .before .before .before .before .before .before .before .before .before .before .before .before .before .before .before .before .before .before .before .pre .0 in
-    let long = c .before .before .before .before .before .before .before .before .before .before .before .before .before .before .before .before .before .before .before .before .before .before .before .before .before .before .before .before .before .before .before .pre .1 in
-    let kept-put : length (c .before .before .before .before .before .before .before .put .last .0) ≡ length (c .before .before .before .before .before .before .before .before .before .before .before .before .before .before .before .before .before .before .before .before .before .before .before .before .before .before .before .before .before .before .before .args .d .now) = c .before .before .before .before .before .before .before .put .kept .0 in
+    let fits = c .before .before .before .before .before .before .before .before .before .before .before .before .before .before .before .before .before .before .before .before .before .before .before .before .before .before .before .pre .0 in
+    let long = c .before .before .before .before .before .before .before .before .before .before .before .before .before .before .before .before .before .before .before .before .before .before .before .before .before .before .before .pre .1 in
+    let kept-put : length (c .before .before .before .before .before .before .before .put .last .0) ≡ length (c .before .before .before .before .before .before .before .before .before .before .before .before .before .before .before .before .before .before .before .before .before .before .before .before .before .before .before .args .d .now) = c .before .before .before .before .before .before .before .put .kept .0 in
     let kept-put2 : length (c .before .before .before .put2 .last .0) ≡ length (c .before .before .before .before .before .before .before .put .last .0) = c .before .before .before .put2 .kept .0 in
     omega arith
 
 put-requires-4 : tie.Need-put-requires-4
 put-requires-4 c κs =
-    let fits = c .before .before .before .before .before .before .before .before .before .before .before .before .before .before .before .before .before .before .before .before .before .before .before .before .before .before .before .before .before .before .before .before .before .before .before .pre .0 in
-    let long = c .before .before .before .before .before .before .before .before .before .before .before .before .before .before .before .before .before .before .before .before .before .before .before .before .before .before .before .before .before .before .before .before .before .before .before .pre .1 in
-    let kept-put : length (c .before .before .before .before .before .before .before .before .before .before .before .put .last .0) ≡ length (c .before .before .before .before .before .before .before .before .before .before .before .before .before .before .before .before .before .before .before .before .before .before .before .before .before .before .before .before .before .before .before .before .before .before .before .args .d .now) = c .before .before .before .before .before .before .before .before .before .before .before .put .kept .0 in
+    let fits = c .before .before .before .before .before .before .before .before .before .before .before .before .before .before .before .before .before .before .before .before .before .before .before .before .before .before .before .before .before .before .before .pre .0 in
+    let long = c .before .before .before .before .before .before .before .before .before .before .before .before .before .before .before .before .before .before .before .before .before .before .before .before .before .before .before .before .before .before .before .pre .1 in
+    let kept-put : length (c .before .before .before .before .before .before .before .before .before .before .before .put .last .0) ≡ length (c .before .before .before .before .before .before .before .before .before .before .before .before .before .before .before .before .before .before .before .before .before .before .before .before .before .before .before .before .before .before .before .args .d .now) = c .before .before .before .before .before .before .before .before .before .before .before .put .kept .0 in
     let kept-put2 : length (c .before .before .before .before .before .before .before .put2 .last .0) ≡ length (c .before .before .before .before .before .before .before .before .before .before .before .put .last .0) = c .before .before .before .before .before .before .before .put2 .kept .0 in
     let kept-put3 : length (c .before .before .before .put3 .last .0) ≡ length (c .before .before .before .before .before .before .before .put2 .last .0) = c .before .before .before .put3 .kept .0 in
     omega arith
@@ -102,22 +96,20 @@ same-length c = search needs
 
 returns : tie.Need-returns
 returns c =
-    let given = c .before .before .before .before .before .before .before .before .before .before .before .before .before .before .before .before .before .before .before .before .before .before .before .before .before .before .before .before .before .before .before .before .before .before .before .before .before .before .before .before .before .before .args in
-    let fits = c .before .before .before .before .before .before .before .before .before .before .before .before .before .before .before .before .before .before .before .before .before .before .before .before .before .before .before .before .before .before .before .before .before .before .before .before .before .before .before .before .before .before .pre .0 in
-    let long = c .before .before .before .before .before .before .before .before .before .before .before .before .before .before .before .before .before .before .before .before .before .before .before .before .before .before .before .before .before .before .before .before .before .before .before .before .before .before .before .before .before .before .pre .1 in
+    let given = c .before .before .before .before .before .before .before .before .before .before .before .before .before .before .before .before .before .before .before .before .before .before .before .before .before .before .before .before .before .before .before .before .before .before .before .before .args in
+    let fits = c .before .before .before .before .before .before .before .before .before .before .before .before .before .before .before .before .before .before .before .before .before .before .before .before .before .before .before .before .before .before .before .before .before .before .before .before .pre .0 in
+    let long = c .before .before .before .before .before .before .before .before .before .before .before .before .before .before .before .before .before .before .before .before .before .before .before .before .before .before .before .before .before .before .before .before .before .before .before .before .pre .1 in
     let n = length (given .c .now) in
     let l = given .d .now in
     let i = given .i in
-    let read0 = quad-read n i l _ (c .before .before .before .before .before .before .before .before .before .before .before .before .before .before .before .before .before .before .before .before .before .before .before .before .before .before .before .before .before .before .before .before .before .before .before .before .before .before .at .ensures) (omega arith) in
-    let read1 = quad-read n (i + 1) l _ (c .before .before .before .before .before .before .before .before .before .before .before .before .before .before .before .before .before .before .before .before .before .before .before .before .before .before .before .before .before .before .before .before .before .before .before .before .at2 .ensures) (omega arith) in
-    let read2 = quad-read n (i + 2) l _ (c .before .before .before .before .before .before .before .before .before .before .before .before .before .before .before .before .before .before .before .before .before .before .before .before .before .before .before .before .before .before .before .before .before .before .at3 .ensures) (omega arith) in
-    let read3 = quad-read n (i + 3) l _ (c .before .before .before .before .before .before .before .before .before .before .before .before .before .before .before .before .before .before .before .before .before .before .before .before .before .before .before .before .before .before .before .before .at4 .ensures) (omega arith) in
-    let stored = four-put n i l _ _ _ _ _ _ _ _ (c .before .before .before .before .before .before .before .before .before .before .before .before .before .before .before .before .before .before .put .ensures) (c .before .before .before .before .before .before .before .before .before .before .before .before .before .before .put2 .ensures) (c .before .before .before .before .before .before .before .before .before .before .put3 .ensures) (c .before .before .before .before .before .before .put4 .ensures) fits long in
+    let read0 = pair-read n i l _ (c .before .before .before .before .before .before .before .before .before .before .before .before .before .before .before .before .before .before .before .before .before .before .before .before .before .before .before .before .before .before .before .before .at .ensures) (omega arith) in
+    let read1 = pair-read n (i + 1) l _ (c .before .before .before .before .before .before .before .before .before .before .before .before .before .before .before .before .before .before .before .before .before .before .before .before .before .before .before .before .before .before .at2 .ensures) (omega arith) in
+    let read2 = pair-read n (i + 2) l _ (c .before .before .before .before .before .before .before .before .before .before .before .before .before .before .before .before .before .before .before .before .before .before .before .before .before .before .before .before .at3 .ensures) (omega arith) in
+    let read3 = pair-read n (i + 3) l _ (c .before .before .before .before .before .before .before .before .before .before .before .before .before .before .before .before .before .before .before .before .before .before .before .before .before .before .at4 .ensures) (omega arith) in
+    let stored = four-put n i l _ _ _ _ _ _ _ _ (c .before .before .before .before .before .before .before .before .before .before .before .before .before .before .before .before .put .ensures) (c .before .before .before .before .before .before .before .before .before .before .before .before .put2 .ensures) (c .before .before .before .before .before .before .before .before .put3 .ensures) (c .before .before .before .before .put4 .ensures) fits long in
     each-lane _
-    (group-stored _ (given .c .now) (lane 0 n l) _ i _ _ _ _ _ _ (read0 0 (omega arith)) (read1 0 (omega arith)) (read2 0 (omega arith)) (read3 0 (omega arith)) (stored 0 (omega arith)) (c .before .before .before .before .before .before .before .before .before .before .before .before .before .before .before .before .before .before .before .before .before .before .before .next-four .ensures))
-    (group-stored _ (given .c .now) (lane 1 n l) _ i _ _ _ _ _ _ (read0 1 (omega arith)) (read1 1 (omega arith)) (read2 1 (omega arith)) (read3 1 (omega arith)) (stored 1 (omega arith)) (c .before .before .before .before .before .before .before .before .before .before .before .before .before .before .before .before .before .before .before .before .before .before .next-four2 .ensures))
-    (group-stored _ (given .c .now) (lane 2 n l) _ i _ _ _ _ _ _ (read0 2 (omega arith)) (read1 2 (omega arith)) (read2 2 (omega arith)) (read3 2 (omega arith)) (stored 2 (omega arith)) (c .before .before .before .before .before .before .before .before .before .before .before .before .before .before .before .before .before .before .before .before .before .next-four3 .ensures))
-    (group-stored _ (given .c .now) (lane 3 n l) _ i _ _ _ _ _ _ (read0 3 (omega arith)) (read1 3 (omega arith)) (read2 3 (omega arith)) (read3 3 (omega arith)) (stored 3 (omega arith)) (c .before .before .before .before .before .before .before .before .before .before .before .before .before .before .before .before .before .before .before .before .next-four4 .ensures))
+    (group-stored _ (given .c .now) (lane 0 n l) _ i _ _ _ _ _ _ (read0 0 (omega arith)) (read1 0 (omega arith)) (read2 0 (omega arith)) (read3 0 (omega arith)) (stored 0 (omega arith)) (c .before .before .before .before .before .before .before .before .before .before .before .before .before .before .before .before .before .before .before .next-four .ensures))
+    (group-stored _ (given .c .now) (lane 1 n l) _ i _ _ _ _ _ _ (read0 1 (omega arith)) (read1 1 (omega arith)) (read2 1 (omega arith)) (read3 1 (omega arith)) (stored 1 (omega arith)) (c .before .before .before .before .before .before .before .before .before .before .before .before .before .before .before .before .before .before .next-four2 .ensures))
 
 pub group-spec : {M : Type 1} → statement M
 group-spec =
@@ -140,8 +132,6 @@ group-spec =
     shared-slice-read-c3
     next-four-requires
     next-four-requires-2
-    next-four-requires-3
-    next-four-requires-4
     put-requires
     put-requires-2
     put-requires-3

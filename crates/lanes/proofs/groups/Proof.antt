@@ -12,7 +12,7 @@ use Rattle.lanes.proofs.groups.Tie as tie
 abbrev Inv-loop : tie.InvT-loop
 Inv-loop d₀ a c s₀ i₀ d s i =
     (i ≤ length c) × (length d ≡ length d₀)
-    × ((k : ℕ) → k < 4 → groups a c ((length c - i) / 4) i (tapsOf k (length c) d s) ≡ groups a c ((length c - 2) / 4) 2 (tapsOf k (length c) d₀ s₀))
+    × ((k : ℕ) → k < 2 → groups a c ((length c - i) / 4) i (tapsOf k (length c) d s) ≡ groups a c ((length c - 2) / 4) 2 (tapsOf k (length c) d₀ s₀))
 
 abbrev μ-loop : tie.MeasureT-loop
 μ-loop d₀ a c s₀ i₀ d s i = length c - i

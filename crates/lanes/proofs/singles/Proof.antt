@@ -12,7 +12,7 @@ use Rattle.lanes.proofs.singles.Tie as tie
 abbrev Inv-loop : tie.InvT-loop
 Inv-loop d₀ a c from s₀ i₀ d s i =
     (i ≤ length c) × (length d ≡ length d₀)
-    × ((k : ℕ) → k < 4 → singles a c (length c - i) i (tapsOf k (length c) d s) ≡ singles a c (length c - from) from (tapsOf k (length c) d₀ s₀))
+    × ((k : ℕ) → k < 2 → singles a c (length c - i) i (tapsOf k (length c) d s) ≡ singles a c (length c - from) from (tapsOf k (length c) d₀ s₀))
 
 abbrev μ-loop : tie.MeasureT-loop
 μ-loop d₀ a c from s₀ i₀ d s i = length c - i

@@ -25,8 +25,11 @@ same-length-4 c = search needs
 same-length-5 : tie.Need-same-length-5
 same-length-5 c = search needs
 
+same-length-6 : tie.Need-same-length-6
+same-length-6 c = search needs
+
 returns : tie.Need-returns
-returns c = df-of _ _ _ _ _ _ _ _ _ _ (c .before .before .before .before .before .before .before .before .before .before .before .before .before .before .df1 .ensures) (c .before .before .before .before .before .before .df2-laid .ensures)
+returns c = df-of _ _ _ _ _ _ _ _ _ _ (c .before .before .before .before .before .before .before .before .before .before .before .before .before .before .before .before .before .df1 .ensures) (c .before .before .before .before .before .before .before .before .df2-laid .ensures)
 
 pub df-laid-spec : {M : Type 1} → statement M
 df-laid-spec =
@@ -39,4 +42,5 @@ df-laid-spec =
     same-length-3
     same-length-4
     same-length-5
+    same-length-6
     returns)

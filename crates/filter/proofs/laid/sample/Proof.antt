@@ -1,11 +1,9 @@
--- `sample` meets its contract: gain, filter, coefficients and volume, each as its call says. Assumes nothing.
+-- `sample` meets its contract: filter, coefficients and volume, each as its call says. Assumes nothing.
 use borrow.Author.Needs.{needs}
+use mathlib.Core.Path.{refl}
 use Rattle.filter.proofs.FilterLaws.{sample-of}
 use Rattle.filter.proofs.laid.sample.Statement.{statement}
 use Rattle.filter.proofs.laid.sample.Tie as tie
-
-gain-requires : tie.Need-gain-requires
-gain-requires c κs = search needs
 
 df-laid-requires : tie.Need-df-laid-requires
 df-laid-requires c κs = search needs
@@ -31,14 +29,16 @@ same-length-5 c = search needs
 same-length-6 : tie.Need-same-length-6
 same-length-6 c = search needs
 
+same-length-7 : tie.Need-same-length-7
+same-length-7 c = search needs
+
 returns : tie.Need-returns
-returns c n long = sample-of _ _ _ _ _ _ _ _ _ _ _ (c .before .before .before .before .before .before .before .before .before .before .before .before .before .before .before .before .before .before .before .before .before .gain .ensures) (rw long at (c .before .before .before .before .before .before .before .before .before .before .before .before .before .before .df-laid .ensures)) (c .before .before .add .ensures)
+returns c n long = sample-of (λ c x. x) _ _ _ _ _ _ _ _ _ _ refl (rw long at (c .before .before .before .before .before .before .before .before .before .before .before .before .before .before .before .before .df-laid .ensures)) (c .before .before .add .ensures)
 
 pub sample-spec : {M : Type 1} → statement M
 sample-spec =
     tie.close
     (tie.spec
-    gain-requires
     df-laid-requires
     add-requires
     same-length
@@ -47,4 +47,5 @@ sample-spec =
     same-length-4
     same-length-5
     same-length-6
+    same-length-7
     returns)

@@ -10,21 +10,21 @@ use Rattle.history.proofs.ThroughLaws.{fromHere, through-all, through-turn, thr
 use Rattle.mlsa.specs.Mlsa.{filter}
 use Rattle.mlsa.specs.Laid.{flat}
 use Rattle.filter.specs.Sample.{state}
-use Rattle.filter.specs.Zero.{sampleOf}
+use Rattle.filter.specs.Zero.{filteredOf}
 use Rattle.filter.proofs.laid.samples_in.Statement.{statement}
 use Rattle.filter.proofs.laid.samples_in.Tie as tie
 
 abbrev Inv-loop : tie.InvT-loop
-Inv-loop samples₀ c₀ increments alpha volume d11₀ d12₀ four₀ d21₀ d22₀ i₀ samples c d11 d12 four d21 d22 i =
-    (i ≤ length samples) × (length samples ≡ length samples₀) × (length c ≡ length c₀) × (length d11 ≡ 6) × (length d12 ≡ 6) × (length four ≡ length four₀) × (length d21 ≡ length d21₀) × (length d22 ≡ 6)
-    × (fromHere (sampleOf alpha volume increments) i (state c (filter d11 d12 (flat (length c₀) four d21) d22)) samples
-    ≡ through (sampleOf alpha volume increments) (state c₀ (filter d11₀ d12₀ (flat (length c₀) four₀ d21₀) d22₀)) samples₀)
+Inv-loop samples₀ c₀ increments alpha volume d11₀ d12₀ first₀ second₀ d21₀ d22₀ i₀ samples c d11 d12 first second d21 d22 i =
+    (i ≤ length samples) × (length samples ≡ length samples₀) × (length c ≡ length c₀) × (length d11 ≡ 6) × (length d12 ≡ 6) × (length first ≡ length first₀) × (length second ≡ length second₀) × (length d21 ≡ length d21₀) × (length d22 ≡ 6)
+    × (fromHere (filteredOf alpha volume increments) i (state c (filter d11 d12 (flat (length c₀) first second d21) d22)) samples
+    ≡ through (filteredOf alpha volume increments) (state c₀ (filter d11₀ d12₀ (flat (length c₀) first₀ second₀ d21₀) d22₀)) samples₀)
 
 abbrev μ-loop : tie.MeasureT-loop
-μ-loop samples₀ c₀ increments alpha volume d11₀ d12₀ four₀ d21₀ d22₀ i₀ samples c d11 d12 four d21 d22 i = length samples - i
+μ-loop samples₀ c₀ increments alpha volume d11₀ d12₀ first₀ second₀ d21₀ d22₀ i₀ samples c d11 d12 first second d21 d22 i = length samples - i
 
 loop-holds : tie.Need-loop-holds Inv-loop μ-loop
-loop-holds c = (omega arith, refl, refl, omega arith, omega arith, refl, refl, omega arith, through-all _ _ _)
+loop-holds c = (omega arith, refl, refl, omega arith, omega arith, refl, refl, refl, omega arith, through-all _ _ _)
 
 mul-x : tie.Need-mul-x Inv-loop μ-loop
 mul-x c = search needs
@@ -49,8 +49,8 @@ loop-less c = simp length-set (omega arith)
 
 loop-again : tie.Need-loop-again Inv-loop μ-loop
 loop-again c =
-    let top = c .before .before .before .before .before .before .before .before .before .before .before .before .before .before .before .before .before .before .before .before .before in
-    let more = c .before .before .before .before .before .before .before .before .before .before .before .before .before .before .before .before .before .before .before .before .loop-test .taken in (
+    let top = c .before .before .before .before .before .before .before .before .before .before .before .before .before .before .before .before .before .before .before .before .before .before .before .before .loop in
+    let more = c .before .before .before .before .before .before .before .before .before .before .before .before .before .before .before .before .before .before .before .before .before .before .before .loop-test .taken in (
       simp length-set (omega arith),
       simp length-set (omega arith),
       omega arith,
@@ -59,7 +59,8 @@ loop-again c =
       omega arith,
       omega arith,
       omega arith,
-      through-turn _ (top .loop .i) _ (top .loop .samples) nan _ (omega arith) (c .before .before .before .before .before .before .before .before .before .before .before .before .sample .ensures _ (top .loop .inv .2)) ∙ top .loop .inv .8,
+      omega arith,
+      through-turn _ (top .i) _ (top .samples) nan _ (omega arith) (c .before .before .before .before .before .before .before .before .before .before .before .before .before .before .sample .ensures _ (top .inv .2)) ∙ top .inv .9,
     )
 
 same-length : tie.Need-same-length Inv-loop μ-loop
@@ -83,10 +84,13 @@ same-length-6 c = search needs
 same-length-7 : tie.Need-same-length-7 Inv-loop μ-loop
 same-length-7 c = search needs
 
+same-length-8 : tie.Need-same-length-8 Inv-loop μ-loop
+same-length-8 c = search needs
+
 returns : tie.Need-returns Inv-loop μ-loop
 returns c =
-    let top = c .before in
-    sym (through-end _ (top .loop .i) _ (top .loop .samples) (omega arith)) ∙ top .loop .inv .8
+    let top = c .before .loop in
+    sym (through-end _ (top .i) _ (top .samples) (omega arith)) ∙ top .inv .9
 
 pub samples-in-spec : {M : Type 1} → statement M
 samples-in-spec =
@@ -110,4 +114,5 @@ samples-in-spec =
     same-length-5
     same-length-6
     same-length-7
+    same-length-8
     returns)

@@ -11,10 +11,10 @@ use Rattle.mlsa.proofs.layout.lane_back.Statement.{statement}
 use Rattle.mlsa.proofs.layout.lane_back.Tie as tie
 
 abbrev Inv-loop : tie.InvT-loop
-Inv-loop out₀ four k i₀ out i = (i ≤ length out₀) × (length out ≡ length out₀) × (out ≡ over (take i (lane k (length out₀) four)) i out₀)
+Inv-loop out₀ pair k i₀ out i = (i ≤ length out₀) × (length out ≡ length out₀) × (out ≡ over (take i (lane k (length out₀) pair)) i out₀)
 
 abbrev μ-loop : tie.MeasureT-loop
-μ-loop out₀ four k i₀ out i = length out₀ - i
+μ-loop out₀ pair k i₀ out i = length out₀ - i
 
 loop-holds : tie.Need-loop-holds Inv-loop μ-loop
 loop-holds c = (omega arith, refl, refl)
@@ -47,7 +47,7 @@ loop-again : tie.Need-loop-again Inv-loop μ-loop
 loop-again c =
     let given = c .before .before .before .args in
     let top = c .before .before .loop in
-    (omega arith, simp length-set (omega arith), back-turn (given .k) (length (given .out .now)) (top .i) (given .four .now) (top .out) (given .out .now) refl (top .inv .2) (omega arith))
+    (omega arith, simp length-set (omega arith), back-turn (given .k) (length (given .out .now)) (top .i) (given .pair .now) (top .out) (given .out .now) refl (top .inv .2) (omega arith))
 
 same-length : tie.Need-same-length Inv-loop μ-loop
 same-length c = search needs
@@ -56,7 +56,7 @@ returns : tie.Need-returns Inv-loop μ-loop
 returns c =
     let given = c .before .before .args in
     let top = c .before .loop in
-    back-end (given .k) (length (given .out .now)) (top .i) (given .four .now) (top .out) (given .out .now) refl (top .inv .2) (omega arith)
+    back-end (given .k) (length (given .out .now)) (top .i) (given .pair .now) (top .out) (given .out .now) refl (top .inv .2) (omega arith)
 
 pub lane-back-spec : {M : Type 1} → statement M
 lane-back-spec =

@@ -21,8 +21,8 @@ same-length c = search needs
 
 returns : tie.Need-returns
 returns c =
-    let given = c .before .before .before .before .before .before .before .before .before .before .before .before .before .before .before .before .before .before .args in
-    back-all (given .n) (given .four .now) (given .d21 .now) _ _ _ _ (c .before .before .before .before .before .before .before .before .before .before .before .before .before .before .before .before .before .before .pre .1) (c .before .before .before .before .before .before .before .before .before .before .before .before .before .before .row-back .ensures) (c .before .before .before .before .before .before .before .before .before .before .row-back2 .ensures) (c .before .before .before .before .before .before .row-back3 .ensures) (c .before .before .row-back4 .ensures)
+    let given = c .before .before .before .before .before .before .before .before .before .before .before .before .before .before .before .before .before .before .before .args in
+    back-all (given .n) (given .first .now) (given .second .now) (given .d21 .now) _ _ _ _ (c .before .before .before .before .before .before .before .before .before .before .before .before .before .before .before .before .before .before .before .pre .2) (c .before .before .before .before .before .before .before .before .before .before .before .before .before .before .row-back .ensures) (c .before .before .before .before .before .before .before .before .before .before .row-back2 .ensures) (c .before .before .before .before .before .before .row-back3 .ensures) (c .before .before .row-back4 .ensures)
 
 pub lay-back-spec : {M : Type 1} → statement M
 lay-back-spec =
