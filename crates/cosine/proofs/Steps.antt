@@ -115,7 +115,7 @@ module _ (s e U A Ω ω P N E d : ℕ) (U⁺ : 1 ≤ U) (Ω⁺ : 1 ≤ Ω) (b : 
     exact-le : ω * N ≤ E * (d * Ω)
     exact-le = omega (arith, wide, mul-le-mul (a .most) (n .most))
 
-    pub code-le : (Q : ℕ) → Q * (U * d) ≤ A * P → Q ≤ U
+    code-le : (Q : ℕ) → Q * (U * d) ≤ A * P → Q ≤ U
     code-le Q h = le-of-mul-le-mul-left {k = U} (omega (arith, mul-le-mul (a .small) (n .cap), mul-le-mul-left (Q * U) d₁₂)) U⁺
 
     pub step : (Q : ℕ) → Q * (U * d) ≤ A * P → A * P ≤ Q * (U * d) + U * d → Near e U (U - Q) (E * (d * Ω) - ω * N) (E * (d * Ω))

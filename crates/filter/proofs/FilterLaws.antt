@@ -10,6 +10,7 @@ use lib.Ieee.{Float, ne, add}
 use Rattle.number.specs.F64.{_⊕_, _⊗_, _‼_, 0f}
 use Rattle.exponential.specs.Exp.{expOf}
 use Rattle.history.specs.Through.{Turned, passage, through}
+use Rattle.history.proofs.ThroughLaws.{through-both}
 use Rattle.vectors.specs.Vectors.{plus}
 use Rattle.mlsa.specs.declared.MelLogSpectrumApproximation.{MelLogSpectrumApproximation}
 use Rattle.mlsa.specs.Mlsa.{filter}
@@ -42,16 +43,6 @@ pub laid-back : (alpha volume : Float) (increments c samples d11 d12 d21 d22 fir
 laid-back alpha volume increments c samples d11 d12 d21 d22 first second c' made e11 e12 e21 e22 first' second' last n laid through-laid back =
     rw back (through-laid ∙ ap (λ (l : List Float). through (filteredOf alpha volume increments) (state c (filter d11 d12 l d22)) samples) laid)
 
--- ONE MACHINE BEFORE ANOTHER: where a turn of both is a turn of one, whose state is a part of the whole, and then a turn of the other, all samples may go
--- through the one and then through the other
-one-before : {A B Sample : Type 0} (one : A → Sample → Turned A Sample) (other both : B → Sample → Turned B Sample) (part : B → A)
-    → ((b : B) (x : Sample) → both b x ≡ other b (one (part b) x .sample))
-    → ((b : B) (x : Sample) → part (both b x .state) ≡ one (part b) x .state)
-    → (b : B) (xs : List Sample) → through both b xs ≡ through other b (through one (part b) xs .made)
-unfolding through
-one-before one other both part turn on b [] = refl
-one-before one other both part turn on b (x ∷ xs) = rw (one-before one other both part turn on (both b x .state) xs, on b x, turn b x) refl
-
 -- c[0] goes on by its increment
 first-on : (c : List Float) (y : Float) (ys : List Float) → plus c (y ∷ ys) ‼ 0 ≡ c ‼ 0 ⊕ y
 unfolding plus add
@@ -64,7 +55,7 @@ pub gains-first : (alpha volume : Float) (increments : List Float) (s : State Me
 unfolding sampleBy gained
 gains-first alpha volume [] s samples h = absurd (omega arith)
 gains-first alpha volume (y ∷ ys) s samples h =
-    sym (one-before (gainOf y) (filteredOf alpha volume (y ∷ ys)) (sampleOf alpha volume (y ∷ ys)) (λ (t : State MelLogSpectrumApproximation). t .c ‼ 0) (λ t x. refl) (λ t x. first-on (t .c) y ys) s samples)
+    sym (through-both (gainOf y) (filteredOf alpha volume (y ∷ ys)) (sampleOf alpha volume (y ∷ ys)) (λ (t : State MelLogSpectrumApproximation). t .c ‼ 0) (λ t x. refl) (λ t x. first-on (t .c) y ys) s samples)
 
 -- eight rows of 64 are 512
 pub rows-within : (stages n : ℕ) → stages ≤ 8 → n ≤ 64 → stages * n ≤ 512

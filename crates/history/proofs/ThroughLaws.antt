@@ -1,4 +1,4 @@
--- Samples may be turned in parts, cut anywhere, and in the buffer that they stand in. Assumes nothing.
+-- Samples may be turned in parts, cut anywhere, in the buffer that they stand in, and by one machine before another. Assumes nothing.
 use mathlib.Core.Path.{_≡_, refl, sym, ap, _∙_}
 use mathlib.Core.List.{List, [], _∷_, _++_, append-nil}
 use Prim.Native.Nat.{ℕ, suc, _+_, _-_, _≤_, _<_}
@@ -64,3 +64,13 @@ module _ {State Sample : Type 0} (turn : State → Sample → Turned State Sampl
   pub through-end : (i : ℕ) (s : State) (d : List Sample) → length d ≤ i → fromHere i s d ≡ passage d s
   unfolding fromHere through
   through-end i s d h = rw (left-none d i h, take-all i d h) (ap (λ (l : List Sample). passage l s) (append-nil d))
+
+-- ONE MACHINE BEFORE ANOTHER: where a turn of both is a turn of one, whose state is a part of the whole, and then a turn of the other, all samples may go
+-- through the one and then through the other
+pub through-both : {A B Sample : Type 0} (one : A → Sample → Turned A Sample) (other both : B → Sample → Turned B Sample) (part : B → A)
+    → ((b : B) (x : Sample) → both b x ≡ other b (one (part b) x .sample))
+    → ((b : B) (x : Sample) → part (both b x .state) ≡ one (part b) x .state)
+    → (b : B) (xs : List Sample) → through both b xs ≡ through other b (through one (part b) xs .made)
+unfolding through
+through-both one other both part turn on b [] = refl
+through-both one other both part turn on b (x ∷ xs) = rw (through-both one other both part turn on (both b x .state) xs, on b x, turn b x) refl
