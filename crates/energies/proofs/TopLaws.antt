@@ -26,7 +26,7 @@ pub record TopsFrom (k top : ℕ) (t : List ℕ) (w : List Float) : Type 0 where
 pub tops-none : (top : ℕ) (t : List ℕ) (w : List Float) → TopsFrom 1152 top t w
 tops-none top t w = record { here = λ j a b. absurd (omega arith); there = λ i j a b c. absurd (omega arith) }
 
-pub tops-all : (top : ℕ) (t : List ℕ) (w : List Float) → TopsFrom 0 top t w → Tops t w
+pub tops-all : (top : ℕ) (t : List ℕ) (w : List Float) → TopsFrom 0 top t w → Tops 1152 t w
 tops-all top t w h = λ i j a b. h .there i j (omega arith) a b
 
 -- one place further to the front

@@ -48,7 +48,7 @@ fn terms(w: &[f64], r: &[f64], n: usize, from: usize, to: usize, d: Both) -> Bot
 // For each place the latest pattern, so the largest size, of the entries from there on.
 fn tops(w: &[f64; 1152]) -> [u64; 1152]
     requires { ⌜ length (now w) ≡ 1152 ⌝ }
-    ensures { λ t. ⌜ Tops t (now (w .entry)) ⌝ }
+    ensures { λ t. ⌜ Tops 1152 t (now (w .entry)) ⌝ }
 {
     let mut tops = [0; 1152];
     let mut top = 0;
@@ -65,7 +65,7 @@ fn tops(w: &[f64; 1152]) -> [u64; 1152]
 // k on have a weight of tops[2 * k] at most, and a response of `high`.
 fn sums(w: &[f64], tops: &[u64], r: &[f64], high: u64, n: usize) -> Both
     requires { ⌜ (n < 576) × (length (now w) ≡ 1152) × (length (now tops) ≡ 1152) × (length (now r) ≡ 1152) ⌝ }
-    requires { ⌜ Tops (now tops) (now w) × Highest high n (now r) ⌝ }
+    requires { ⌜ Tops 1152 (now tops) (now w) × Highest high n (now r) ⌝ }
     ensures { λ d. ⌜ (d .first ≡ sumFrom (weighedTerm (evens (now (w .entry))) (evens (now (r .entry))) n) 1 n 0f) × (d .second ≡ sumFrom (weighedTerm (odds (now (w .entry))) (odds (now (r .entry))) n) 1 n 0f) ⌝ }
 {
     let mut d = Both {

@@ -2,14 +2,14 @@
 use mathlib.Core.Path.{_≡_, refl, sym, ap, subst, _∙_}
 use mathlib.Core.Bool.{Bool, true, false, not, _&&_, _||_, cond, false≢true}
 use mathlib.Core.Logic.{_⊎_, inl, inr}
-use Prim.Native.Nat.{ℕ, zero, suc, _+_, _-_, _*_, _%_, _^_, _≤_, _<_}
-use native.Mathlib.Nat.{le-of-lt, le-of-eq, le-trans, lt-of-le-of-lt, eq-or-lt-of-le, mul-pos, mul-le-mul, mul-le-mul-right, mul-lt-mul-of-pos-right, lt-of-mul-lt-mul-right, sub-add-cancel}
+use Prim.Native.Nat.{ℕ, zero, suc, _+_, _-_, _*_, _^_, _≤_, _<_}
+use native.Mathlib.Nat.{le-of-lt, le-of-eq, eq-or-lt-of-le, mul-pos, mul-le-mul, mul-le-mul-right, mul-lt-mul-of-pos-right, lt-of-mul-lt-mul-right, sub-add-cancel}
 use native.Mathlib.Omega.{arith}
 use borrow.Author.Tests.{lt-ltb, le-ltb}
 use lib.IntN.{ℤ}
 use lib.Pow.{pow-pos}
 use lib.Dec.{T, ltb, eqb, ltb→lt, lt→ltb, eqb→eq}
-use lib.Ieee.{Float, nan, inf, fin, binary64, fits, up, down, unlike, odd, units, round, neg, sum, add, sub, mul, lt, le, eq, ofBits, toBits}
+use lib.Ieee.{Float, nan, inf, fin, binary64, fits, up, down, unlike, odd, units, round, neg, sum, add, mul, lt, le, eq, ofBits, toBits}
 use lib.Ieee.Fits.{round-is, down-pos, neg-fits}
 use lib.Ieee.Exact.{HasValue}
 use lib.Ieee.Order.{drop, kept, transfer, round-mono}

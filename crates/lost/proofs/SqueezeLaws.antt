@@ -2,22 +2,19 @@
 use mathlib.Core.Path.{_≡_, refl, sym, ap, _∙_}
 use mathlib.Core.Bool.{true, false}
 use Prim.Native.Nat.{ℕ, _+_, _-_, _*_, _^_, _≤_, _<_}
-use native.Mathlib.Nat.{le-antisymm, le-of-lt, mul-pos, mul-le-mul-right, eq-of-mul-eq-mul-right, sub-add-cancel}
+use native.Mathlib.Nat.{le-antisymm, le-of-lt, mul-pos, mul-le-mul-right, eq-of-mul-eq-mul-right}
 use native.Mathlib.Omega.{arith}
 use lib.Dec.{T}
 use lib.Pow.{pow-pos}
-use lib.Ieee.{Float, nan, inf, fin, binary64, fits, round, le}
+use lib.Ieee.{Float, nan, inf, fin, binary64, fits, round, le, toBits}
 use lib.Ieee.Fits.{round-fits}
-use lib.Ieee.Exact.{HasValue}
 use lib.Ieee.Order.{round-mono}
 use lib.Ieee.Positive.{num, den, den-pos, positive, above, above-of-le, between, own-value, value→cross, le→cross, le-trans-positive}
 use Rattle.number.specs.F64.{_⊕_, _⊖_}
 use Rattle.root.specs.Parts.{patternUnits}
-use Rattle.root.specs.Root.{unitsOf}
 use Rattle.root.proofs.Floats.{units-are, same-float}
 use Rattle.elementary.proofs.Patterns.{from-zero, own-pattern, value-same}
 use Rattle.elementary.proofs.Weighted.{add-is, sub-is}
-use lib.Ieee.{toBits}
 
 -- ---- two floats of which neither is larger are one
 

@@ -1,11 +1,9 @@
 -- The queue of the noise keeps its 64 values: a filling is 32 pairs. Assumes nothing.
 use mathlib.Core.Path.{_≡_, refl, _∙_}
-use mathlib.Core.List.{List}
 use Prim.Native.Nat.{ℕ, _*_}
 use native.Mathlib.Omega.{arith}
 use lib.ListN.{length, length-append}
 use lib.Ieee.{Float}
-use Rattle.history.specs.Steps.{Step}
 use Rattle.noise.specs.declared.Random.{Random}
 use Rattle.noise.specs.declared.pair.Found.{Found}
 use Rattle.noise.specs.declared.pair.Found.the-variants as found
