@@ -9,6 +9,7 @@ mod Lipschitz
 mod Sums
 mod Value
 mod Powers
+mod Together
 mod Rounded
 mod Near
 mod Answers

@@ -2,7 +2,8 @@
 ghost use mathlib.Core.Path.{_≡_};
 ghost use Prim.Native.Nat.{_+_, _-_, _*_, _^_, _≤_};
 ghost use Rattle.elementary.specs.Exact.{ExpAnswer};
-ghost use Rattle.exponential.specs.Exp.{multiples, powerOfTwo, restOf, insideOf, expOf};
+ghost use Rattle.number.specs.F64.{_⊗_};
+ghost use Rattle.exponential.specs.Exp.{multiples, powerOfTwo, restOf, sumAt, insideOf, expOf};
 
 mod polynomial;
 mod reduction;
@@ -34,17 +35,56 @@ fn rest(negative: bool, u: u64, m: u64) -> f64
     (size as f64) * f64::from_bits(unit)
 }
 
-// The answer for an argument of u units and its k.
-fn inside(negative: bool, u: u64, k: u64) -> f64
+// What e^x is made of: the argument of the sum, and what the sum is multiplied by.
+pub struct Parts {
+    pub rest: f64,
+    pub power: f64,
+}
+
+// The parts for an argument of u units and its k.
+fn inside(negative: bool, u: u64, k: u64) -> Parts
     requires { ⌜ (k ≤ 1023) × ((u - multiples (2 * k)) + (multiples (2 * k) - u) ≤ 2 ^ 53) ⌝ }
-    ensures { λ r. ⌜ r ≡ insideOf negative u k ⌝ }
+    ensures { λ r. ⌜ sumAt (r .rest) ⊗ r .power ≡ insideOf negative u k ⌝ }
 {
     let m = multiple(2 * k);
-    let power = power_of_two(negative, k);
-    if u == m {
-        return power;
+    Parts {
+        rest: rest(negative, u, m),
+        power: power_of_two(negative, k),
     }
-    polynomial(rest(negative, u, m)) * power
+}
+
+// The parts of e^x. Outside the range, and of the NaN, the sum is 1 and the power the answer.
+pub fn split(x: f64) -> Parts
+    ensures { λ r. ⌜ sumAt (r .rest) ⊗ r .power ≡ expOf x ⌝ }
+{
+    if x != x {
+        return Parts {
+            rest: 0.0,
+            power: x,
+        };
+    }
+    if x > 709.0 {
+        return Parts {
+            rest: 0.0,
+            power: 1.0 / 0.0,
+        };
+    }
+    if x < -708.0 {
+        return Parts {
+            rest: 0.0,
+            power: 0.0,
+        };
+    }
+    let b = f64::to_bits(x);
+    let u = units(b % 0x8000_0000_0000_0000);
+    inside(b >= 0x8000_0000_0000_0000, u, nearest(u))
+}
+
+// e^x from its parts: the sum times the power. With the parts of many x in arrays, the compiler makes vectors of it.
+pub fn joined(rest: f64, power: f64) -> f64
+    ensures { λ r. ⌜ r ≡ sumAt rest ⊗ power ⌝ }
+{
+    polynomial(rest) * power
 }
 
 // e^x: NaN of the NaN, the infinity above 709, zero below -708.
@@ -55,16 +95,6 @@ pub fn exp(x: f64) -> f64
     ensures { λ r. ⌜ r ≡ expOf x ⌝ }
     ensures { λ r. ⌜ ExpAnswer x r ⌝ }
 {
-    if x != x {
-        return x;
-    }
-    if x > 709.0 {
-        return 1.0 / 0.0;
-    }
-    if x < -708.0 {
-        return 0.0;
-    }
-    let b = f64::to_bits(x);
-    let u = units(b % 0x8000_0000_0000_0000);
-    inside(b >= 0x8000_0000_0000_0000, u, nearest(u))
+    let p = split(x);
+    joined(p.rest, p.power)
 }

@@ -18,15 +18,6 @@ use Rattle.mlsa.specs.Laid.{flat}
 use Rattle.filter.specs.Sample.{State, state, sampleBy}
 use Rattle.filter.specs.Zero.{gained, gainOf, sampleOf, filteredOf}
 
--- the gain of stage 0, by the test of the sample
-pub gained-loud : (c0 x : Float) → ne x 0f ≡ true → x ⊗ expOf c0 ≡ gained (c0 ∷ []) x
-unfolding gained
-gained-loud c0 x t = rw t refl
-
-pub gained-still : (c0 x : Float) → ne x 0f ≡ false → x ≡ gained (c0 ∷ []) x
-unfolding gained
-gained-still c0 x t = rw t refl
-
 pub sample-of : {Filter : Type 0} (gain : List Float → Float → Float) (df : List Float → Filter → Float → Turned Filter Float)
     (volume x loud y : Float) (increments c after : List Float) (f g : Filter)
     → loud ≡ gain c x → _≡_ {A = Turned Filter Float} (record { sample = y; state = g }) (df c f loud) → after ≡ plus c increments

@@ -1,2 +1,3 @@
 mod FilterLaws
+mod GainLaws
 pub mod Cut

@@ -1,9 +1,11 @@
 -- A sample at stage 0. Assumes nothing.
+use mathlib.Core.Path.{_≡_}
 use mathlib.Core.Bool.{cond}
 use mathlib.Core.List.{List, [], _∷_}
+use Prim.Native.Nat.{ℕ, zero, suc, _<_}
 use lib.Ieee.{Float, ne}
 use Rattle.number.specs.F64.{_⊕_, _⊗_, 0f, _‼_}
-use Rattle.exponential.specs.Exp.{expOf}
+use Rattle.exponential.specs.Exp.{sumAt, expOf}
 use Rattle.history.specs.Through.{Turned}
 use Rattle.mlsa.specs.declared.MelLogSpectrumApproximation.{MelLogSpectrumApproximation}
 use Rattle.mlsa.specs.Mlsa.{dfOf}
@@ -25,3 +27,12 @@ gainOf increment c0 x = record { sample = gained (c0 ∷ []) x; state = c0 ⊕ i
 -- a sample that has its gain
 abbrev pub filteredOf : (alpha volume : Float) (increments : List Float) → State MelLogSpectrumApproximation → Float → Turned (State MelLogSpectrumApproximation) Float
 filteredOf alpha = sampleBy (λ c x. x) (dfOf alpha)
+
+-- c[0] after n samples
+unfoldable pub onBy : (increment start : Float) → ℕ → Float
+onBy increment start zero = start
+onBy increment start (suc n) = onBy increment start n ⊕ increment
+
+-- the parts of exp for n samples: the sums at the rests, times the powers
+abbrev pub Prepared : (increment start : Float) → ℕ → (rests powers : List Float) → Type 0
+Prepared increment start n rests powers = (i : ℕ) → i < n → sumAt (rests ‼ i) ⊗ (powers ‼ i) ≡ expOf (onBy increment start i)

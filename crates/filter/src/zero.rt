@@ -1,40 +1,14 @@
 // Stage 0.
 ghost use mathlib.Core.Path.{_≡_};
-ghost use mathlib.Core.List.{[], _∷_};
 ghost use Prim.Native.Nat.{_*_, _≤_};
 ghost use lib.ListN.{length};
 ghost use Rattle.history.specs.Through.{passage, through};
 ghost use Rattle.mlsa.specs.Mlsa.{filter};
 ghost use Rattle.filter.specs.Sample.{state};
-ghost use Rattle.filter.specs.Zero.{gained, gainOf, sampleOf};
+ghost use Rattle.filter.specs.Zero.{sampleOf};
+use crate::gains::gains;
 use crate::laid::between;
 use mlsa::MelLogSpectrumApproximation;
-
-// The sample times exp(c0), where it is not 0.
-fn gain(x: f64, c0: f64) -> f64
-    ensures { λ r. ⌜ r ≡ gained (c0 ∷ []) x ⌝ }
-{
-    if x != 0.0 {
-        x * exponential::exp(c0)
-    } else {
-        x
-    }
-}
-
-// The gains of all samples, with c0 from `start` on by its increment after each. In a loop of their own they take less time than within the filter's.
-fn gains(samples: &mut [f64], start: f64, increment: f64)
-    ensures { λ _. ⌜ now (samples .exit) ≡ through (gainOf increment) start (now (samples .entry)) .made ⌝ }
-{
-    let mut c0 = start;
-    let mut i = 0;
-    while i < samples.len() {
-        let x = samples[i];
-        let loud = gain(x, c0);
-        samples[i] = loud;
-        c0 = c0 + increment;
-        i += 1;
-    }
-}
 
 // The samples of a stretch, with the filter's taps lent one by one.
 pub fn stretch_in(
