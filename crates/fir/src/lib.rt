@@ -95,7 +95,7 @@ pub fn next_one(a: f64, d0: f64, c0: f64, s: Carried) -> One
 }
 
 // The first two taps.
-fn start(d: &mut [f64], a: f64, x: f64) -> Carried
+pub fn start(d: &mut [f64], a: f64, x: f64) -> Carried
     requires { ⌜ 1 < length (now d) ⌝ }
     ensures { λ r. ⌜ record { d = now (d .exit); on = r } ≡ start a x (now (d .entry)) ⌝ }
 {
@@ -106,7 +106,7 @@ fn start(d: &mut [f64], a: f64, x: f64) -> Carried
 }
 
 // Four taps from index i on, each over the old ones.
-fn group(d: &mut [f64], a: f64, c: &[f64], i: usize, s: Carried) -> Carried
+pub fn group(d: &mut [f64], a: f64, c: &[f64], i: usize, s: Carried) -> Carried
     requires { ⌜ (i + 1 < length (now d)) × (i + 2 < length (now d)) × (i + 3 < length (now d)) × (i + 3 < length (now c)) ⌝ }
     ensures { λ r. ⌜ record { d = now (d .exit); on = r } ≡ group a (now (c .entry)) i (record { d = now (d .entry); on = s }) ⌝ }
 {
@@ -130,7 +130,7 @@ fn group(d: &mut [f64], a: f64, c: &[f64], i: usize, s: Carried) -> Carried
 }
 
 // One tap, at index i.
-fn tap(d: &mut [f64], a: f64, c: &[f64], i: usize, s: Carried) -> Carried
+pub fn tap(d: &mut [f64], a: f64, c: &[f64], i: usize, s: Carried) -> Carried
     requires { ⌜ (i < length (now d)) × (i < length (now c)) ⌝ }
     ensures { λ r. ⌜ record { d = now (d .exit); on = r } ≡ tap a (now (c .entry)) i (record { d = now (d .entry); on = s }) ⌝ }
 {

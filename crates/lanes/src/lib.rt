@@ -1,11 +1,13 @@
-// Two filters `fir` at once, on rows of taps that stand side by side: entry 2 * i + k is tap i of row k. Each lane does what `fir` does. With four lanes
-// x86-64 has too few registers for what is carried.
+// Several filters `fir` at once, each doing what `fir` does. Here two on rows of taps that stand side by side: entry 2 * i + k is tap i of row k. With
+// four lanes in one list x86-64 has too few registers for what is carried; `five` takes two such pairs one after the other.
 ghost use mathlib.Core.Path.{_≡_};
-ghost use Prim.Native.Nat.{ℕ, _+_, _-_, _*_, _/_, _≤_, _<_};
+ghost use Prim.Native.Nat.{ℕ, _+_, _*_, _≤_, _<_};
 ghost use lib.ListN.{length};
-ghost use Rattle.fir.specs.Fir.{start, group, tap, groups, singles, firOf};
+ghost use Rattle.fir.specs.Fir.{start, group, tap};
 ghost use Rattle.lanes.specs.Lane.{lane, side, pairAt, putPair, tapsOf};
 use fir::Carried;
+
+pub mod five;
 
 // A number for each lane.
 pub struct Pair {
@@ -40,7 +42,7 @@ pub fn put(l: &mut [f64], i: usize, a: f64, b: f64)
 }
 
 // The first two taps.
-fn start(d: &mut [f64], a: f64, x: Pair, n: usize) -> Abreast
+pub(crate) fn start(d: &mut [f64], a: f64, x: Pair, n: usize) -> Abreast
     requires { ⌜ (1 < n) × (2 * n ≤ length (now d)) ⌝ }
     ensures { λ r. ⌜ ((k : ℕ) → k < 2 → tapsOf k n (now (d .exit)) r ≡ start a (side k x) (lane k n (now (d .entry)))) ⌝ }
 {
@@ -55,7 +57,7 @@ fn start(d: &mut [f64], a: f64, x: Pair, n: usize) -> Abreast
 }
 
 // Four taps from index i on: all are read, then made, then stored.
-fn group(d: &mut [f64], a: f64, c: &[f64], i: usize, s: Abreast) -> Abreast
+pub(crate) fn group(d: &mut [f64], a: f64, c: &[f64], i: usize, s: Abreast) -> Abreast
     requires { ⌜ (i + 3 < length (now c)) × (2 * length (now c) ≤ length (now d)) ⌝ }
     ensures { λ r. ⌜ ((k : ℕ) → k < 2 → tapsOf k (length (now (c .entry))) (now (d .exit)) r ≡ group a (now (c .entry)) i (tapsOf k (length (now (c .entry))) (now (d .entry)) s)) ⌝ }
 {
@@ -87,7 +89,7 @@ fn group(d: &mut [f64], a: f64, c: &[f64], i: usize, s: Abreast) -> Abreast
 }
 
 // One tap, at index i.
-fn tap(d: &mut [f64], a: f64, c: &[f64], i: usize, s: Abreast) -> Abreast
+pub(crate) fn tap(d: &mut [f64], a: f64, c: &[f64], i: usize, s: Abreast) -> Abreast
     requires { ⌜ (i < length (now c)) × (2 * length (now c) ≤ length (now d)) ⌝ }
     ensures { λ r. ⌜ ((k : ℕ) → k < 2 → tapsOf k (length (now (c .entry))) (now (d .exit)) r ≡ tap a (now (c .entry)) i (tapsOf k (length (now (c .entry))) (now (d .entry)) s)) ⌝ }
 {
@@ -103,52 +105,5 @@ fn tap(d: &mut [f64], a: f64, c: &[f64], i: usize, s: Abreast) -> Abreast
     Abreast {
         a: next_a,
         b: next_b,
-    }
-}
-
-// The groups of four from index 2 on, as many as there are.
-fn groups(d: &mut [f64], a: f64, c: &[f64], first: Abreast) -> Abreast
-    requires { ⌜ (2 ≤ length (now c)) × (2 * length (now c) ≤ length (now d)) ⌝ }
-    ensures { λ r. ⌜ ((k : ℕ) → k < 2 → tapsOf k (length (now (c .entry))) (now (d .exit)) r
-        ≡ groups a (now (c .entry)) ((length (now (c .entry)) - 2) / 4) 2 (tapsOf k (length (now (c .entry))) (now (d .entry)) first)) ⌝ }
-{
-    let mut s = first;
-    let mut i = 2;
-    while i + 4 <= c.len() {
-        s = group(d, a, c, i, s);
-        i += 4;
-    }
-    s
-}
-
-// The taps from index `from` on, one by one.
-fn singles(d: &mut [f64], a: f64, c: &[f64], from: usize, first: Abreast) -> Abreast
-    requires { ⌜ (from ≤ length (now c)) × (2 * length (now c) ≤ length (now d)) ⌝ }
-    ensures { λ r. ⌜ ((k : ℕ) → k < 2 → tapsOf k (length (now (c .entry))) (now (d .exit)) r
-        ≡ singles a (now (c .entry)) (length (now (c .entry)) - from) from (tapsOf k (length (now (c .entry))) (now (d .entry)) first)) ⌝ }
-{
-    let mut s = first;
-    let mut i = from;
-    while i < c.len() {
-        s = tap(d, a, c, i, s);
-        i += 1;
-    }
-    s
-}
-
-// The answer of each lane, whose taps after it are left in d.
-pub fn fir(d: &mut [f64], x: Pair, alpha: f64, c: &[f64]) -> Pair
-    requires { ⌜ (2 ≤ length (now c)) × (2 * length (now c) ≤ length (now d)) ⌝ }
-    ensures { λ r. ⌜ ((k : ℕ) → k < 2 → record { d = lane k (length (now (c .entry))) (now (d .exit)); y = side k r }
-        ≡ firOf alpha (side k x) (now (c .entry)) (lane k (length (now (c .entry))) (now (d .entry)))) ⌝ }
-{
-    let n = c.len();
-    let first = start(d, alpha, x, n);
-    let grouped = groups(d, alpha, c, first);
-    let from = 2 + (n - 2) / 4 * 4;
-    let s = singles(d, alpha, c, from, grouped);
-    Pair {
-        a: s.a.y0 + s.a.y1,
-        b: s.b.y0 + s.b.y1,
     }
 }

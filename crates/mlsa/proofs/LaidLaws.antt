@@ -10,8 +10,11 @@ use Rattle.number.specs.F64.{_‼_, 0f}
 use Rattle.number.specs.Lists.{row, putRow}
 use Rattle.fir.specs.Fir.{Filtered, firOf}
 use Rattle.lanes.specs.declared.Pair.{Pair}
+use Rattle.lanes.specs.declared.five.Numbers.{Numbers}
 use Rattle.lanes.specs.Lane.{lane, side, pairAt}
+use Rattle.lanes.specs.Rows.{rowAt, numberAt}
 use Rattle.lanes.proofs.LaneLaws.{length-lane}
+use Rattle.lanes.proofs.RowLaws.{each-row}
 use Rattle.mlsa.specs.declared.Sums.{Sums}
 use Rattle.mlsa.specs.Mlsa.{Part, part, weighed, secondRow, downward, passed, ended, df2Of}
 use Rattle.mlsa.specs.Laid.{joined, lanesOf, flat, answered}
@@ -106,55 +109,70 @@ module _ (alpha : Float) (c : List Float) where
       let behind = f .d ++ drop (4 * n + n - 4 * n) (drop (4 * n) d21) in
       rw (drop-joined n rows (drop (4 * n) d21) each, take-joined n rows (drop (4 * n) d21) behind each, drop-at (take (4 * n) d21) behind (4 * n) front) refl
 
-module _ (alpha : Float) (c first first' second second' d22 : List Float) (heads12 heads34 y12 y34 : Pair) (s : Sums) (rest : List Float) where
+module _ (alpha : Float) (c first first' second second' last last' d22 : List Float) (heads y : Numbers)
+    (at : (k : ℕ) → k < 5 → numberAt k heads ≡ d22 ‼ k)
+    (made : (k : ℕ) → k < 5 → _≡_ {A = Filtered} (record { d = rowAt k (length c) first' second' last'; y = numberAt k y }) (firOf alpha (numberAt k heads) c (rowAt k (length c) first second last))) where
+  -- row 5, whose taps are a row of d21
+  fifth : (d21 d21' : List Float) (s : Sums) → last ≡ row (4 * length c) (4 * length c + length c) d21 → d21' ≡ putRow (4 * length c) (4 * length c + length c) last' d21
+      → secondRow alpha c 5 (part d21 d22 s) ≡ part d21' (set d22 5 (y .last)) (weighed 5 (y .last) s)
+  unfolding secondRow
+  fifth d21 d21' s there put =
+      let from = 4 * length c in
+      let to = from + length c in
+      let f = made 4 (omega arith) ∙ ap (λ (x : Float). firOf alpha x c last) (at 4 (omega arith)) ∙ ap (firOf alpha (d22 ‼ 4) c) there in
+      rw put (ap (λ (g : Filtered). part (putRow from to (g .d) d21) (set d22 5 (g .y)) (weighed 5 (g .y) s)) (sym f))
+
   -- rows 4 to 1 in lanes: each reads the answer of the row before it as it was
-  four-laid : heads12 ≡ pairAt d22 0 → heads34 ≡ pairAt d22 1
-      → ((k : ℕ) → k < 2 → _≡_ {A = Filtered} (record { d = lane k (length c) first'; y = side k y12 }) (firOf alpha (side k heads12) c (lane k (length c) first)))
-      → ((k : ℕ) → k < 2 → _≡_ {A = Filtered} (record { d = lane k (length c) second'; y = side k y34 }) (firOf alpha (side k heads34) c (lane k (length c) second)))
-      → downward (secondRow alpha c) 4 (part (joined (lanesOf (length c) first second) rest) d22 s) ≡ answered y12 y34 (part (joined (lanesOf (length c) first' second') rest) d22 s)
+  four-laid : (s : Sums) (rest : List Float) → downward (secondRow alpha c) 4 (part (joined (lanesOf (length c) first second) rest) (set d22 5 (y .last)) (weighed 5 (y .last) s))
+      ≡ answered y (part (joined (lanesOf (length c) first' second') rest) d22 s)
   unfolding downward
-  four-laid at12 at34 made12 made34 =
+  four-laid s rest =
       let n = length c in
       let r4 = lanesOf n first second in
       let r3 = set r4 3 (lane 1 n second') in
       let r2 = set r3 2 (lane 0 n second') in
       let r1 = set r2 1 (lane 1 n first') in
-      let d3 = set d22 4 (y34 .b) in
-      let d2 = set d3 3 (y34 .a) in
-      let d1 = set d2 2 (y12 .b) in
-      let s3 = weighed 4 (y34 .b) s in
-      let s2 = weighed 3 (y34 .a) s3 in
-      let s1 = weighed 2 (y12 .b) s2 in
+      let d4 = set d22 5 (y .last) in
+      let d3 = set d4 4 (y .second .b) in
+      let d2 = set d3 3 (y .second .a) in
+      let d1 = set d2 2 (y .first .b) in
+      let s4 = weighed 5 (y .last) s in
+      let s3 = weighed 4 (y .second .b) s4 in
+      let s2 = weighed 3 (y .second .a) s3 in
+      let s1 = weighed 2 (y .first .b) s2 in
       let old0 = length-lane 0 n first in
       let old1 = length-lane 1 n first in
       let old2 = length-lane 0 n second in
       let new1 = length-lane 1 n first' in
       let new2 = length-lane 0 n second' in
       let new3 = length-lane 1 n second' in
-      let above4 : (k : ℕ) → k < 4 → d22 ‼ k ≡ d3 ‼ k = λ k h. above d22 4 k (y34 .b) h in
-      let above3 : (k : ℕ) → k < 3 → d22 ‼ k ≡ d2 ‼ k = λ k h. above4 k (omega arith) ∙ above d3 3 k (y34 .a) h in
-      let above2 : d22 ‼ 0 ≡ d1 ‼ 0 = above3 0 (omega arith) ∙ above d2 2 0 (y12 .b) (omega arith) in
+      let at4 : (k : ℕ) → k < 5 → numberAt k heads ≡ d4 ‼ k = λ k h. at k h ∙ above d22 5 k (y .last) h in
+      let at3 : (k : ℕ) → k < 4 → numberAt k heads ≡ d3 ‼ k = λ k h. at4 k (omega arith) ∙ above d4 4 k (y .second .b) h in
+      let at2 : (k : ℕ) → k < 3 → numberAt k heads ≡ d2 ‼ k = λ k h. at3 k (omega arith) ∙ above d3 3 k (y .second .a) h in
+      let at1 : numberAt 0 heads ≡ d1 ‼ 0 = at2 0 (omega arith) ∙ above d2 2 0 (y .first .b) (omega arith) in
       ap (downward (secondRow alpha c) 3)
-      (second-joined alpha c r4 rest d22 s 3 _ _ (lanes-each n first second) (omega arith) (made34 1 (omega arith)) (ap (side 1) at34))
+      (second-joined alpha c r4 rest d4 s4 3 _ _ (lanes-each n first second) (omega arith) (made 3 (omega arith)) (at4 3 (omega arith)))
       ∙ ap (downward (secondRow alpha c) 2)
-      (second-joined alpha c r3 rest d3 s3 2 _ _ (old0, (old1, (old2, (new3, tt)))) (omega arith) (made34 0 (omega arith)) (ap (side 0) at34 ∙ above4 2 (omega arith)))
+      (second-joined alpha c r3 rest d3 s3 2 _ _ (old0, (old1, (old2, (new3, tt)))) (omega arith) (made 2 (omega arith)) (at3 2 (omega arith)))
       ∙ ap (downward (secondRow alpha c) 1)
-      (second-joined alpha c r2 rest d2 s2 1 _ _ (old0, (old1, (new2, (new3, tt)))) (omega arith) (made12 1 (omega arith)) (ap (side 1) at12 ∙ above3 1 (omega arith)))
-      ∙ second-joined alpha c r1 rest d1 s1 0 _ _ (old0, (new1, (new2, (new3, tt)))) (omega arith) (made12 0 (omega arith)) (ap (side 0) at12 ∙ above2)
+      (second-joined alpha c r2 rest d2 s2 1 _ _ (old0, (old1, (new2, (new3, tt)))) (omega arith) (made 1 (omega arith)) (at2 1 (omega arith)))
+      ∙ second-joined alpha c r1 rest d1 s1 0 _ _ (old0, (new1, (new2, (new3, tt)))) (omega arith) (made 0 (omega arith)) at1
 
--- both: row 5, then the lanes
-pub df2-laid : (alpha : Float) (c first first' second second' d21 d21' d22 d22₁ d22' : List Float) (x r : Float) (s : Sums) (heads12 heads34 y12 y34 : Pair)
-    → 6 * length c ≤ length d21
-    → part d21' d22₁ s ≡ secondRow alpha c 5 (part d21 d22 (record { x = x; out = 0f })) → heads12 ≡ pairAt d22₁ 0 → heads34 ≡ pairAt d22₁ 1
-    → ((k : ℕ) → k < 2 → _≡_ {A = Filtered} (record { d = lane k (length c) first'; y = side k y12 }) (firOf alpha (side k heads12) c (lane k (length c) first)))
-    → ((k : ℕ) → k < 2 → _≡_ {A = Filtered} (record { d = lane k (length c) second'; y = side k y34 }) (firOf alpha (side k heads34) c (lane k (length c) second)))
-    → ((l : List Float) → passed l d22' r ≡ ended (answered y12 y34 (part l d22₁ s)))
-    → passed (flat (length c) first' second' d21') d22' r ≡ df2Of alpha c (flat (length c) first second d21) d22 x
-unfolding df2Of downward flat
-df2-laid alpha c first first' second second' d21 d21' d22 d22₁ d22' x r s heads12 heads34 y12 y34 long fifth at12 at34 made12 made34 weighs =
-    let n = length c in
-    let begun : Sums = record { x = x; out = 0f } in
-    let laid : secondRow alpha c 5 (part (flat n first second d21) d22 begun) ≡ part (flat n first second d21') d22₁ s =
-    fifth-laid alpha c first second d21 d22 begun (omega arith) ∙ ap (λ (p : Part). part (flat n first second (p .d1)) (p .d2) (p .sums)) (sym fifth) in
-    let lanes = four-laid alpha c first first' second second' d22₁ heads12 heads34 y12 y34 s (drop (4 * n) d21') at12 at34 made12 made34 in
-    weighs (flat n first' second' d21') ∙ ap ended (sym (ap (downward (secondRow alpha c) 4) laid ∙ lanes))
+  -- all five, and the sample that is passed on
+  pub df2-laid : (d21 d21' d22' : List Float) (x r : Float) → 6 * length c ≤ length d21
+      → last ≡ row (4 * length c) (4 * length c + length c) d21 → d21' ≡ putRow (4 * length c) (4 * length c + length c) last' d21
+      → ((l : List Float) → passed l d22' r ≡ ended (answered y (part l d22 (record { x = x; out = 0f }))))
+      → passed (flat (length c) first' second' d21') d22' r ≡ df2Of alpha c (flat (length c) first second d21) d22 x
+  unfolding df2Of downward flat
+  df2-laid d21 d21' d22' x r long there put weighs =
+      let n = length c in
+      let begun : Sums = record { x = x; out = 0f } in
+      let laid : secondRow alpha c 5 (part (flat n first second d21) d22 begun) ≡ part (flat n first second d21') (set d22 5 (y .last)) (weighed 5 (y .last) begun) =
+      fifth-laid alpha c first second d21 d22 begun (omega arith) ∙ ap (λ (p : Part). part (flat n first second (p .d1)) (p .d2) (p .sums)) (fifth d21 d21' begun there put) in
+      weighs (flat n first' second' d21') ∙ ap ended (sym (ap (downward (secondRow alpha c) 4) laid ∙ four-laid begun (drop (4 * n) d21')))
+
+-- the heads of the rows, as they are read
+pub heads-at : (d22 : List Float) (first second : Pair) (last : Float) → first ≡ pairAt d22 0 → second ≡ pairAt d22 1 → last ≡ d22 ‼ 4
+    → (k : ℕ) → k < 5 → numberAt k (record { first = first; second = second; last = last }) ≡ d22 ‼ k
+heads-at d22 first second last e12 e34 e5 =
+    each-row (λ k. numberAt k (record { first = first; second = second; last = last }) ≡ d22 ‼ k) (ap (side 0) e12) (ap (side 1) e12) (ap (side 0) e34) (ap (side 1) e34) e5

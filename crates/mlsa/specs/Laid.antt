@@ -5,7 +5,7 @@ use Prim.Native.Nat.{ℕ, _*_}
 use lib.ListN.{drop, set, replicate}
 use lib.Ieee.{Float, ofBits, add, mul, neg}
 use Rattle.number.specs.F64.{0f, ½f, 1f, 2f}
-use Rattle.lanes.specs.declared.Pair.{Pair}
+use Rattle.lanes.specs.declared.five.Numbers.{Numbers}
 use Rattle.lanes.specs.Lane.{lane}
 use Rattle.mlsa.specs.declared.Sums.{Sums}
 use Rattle.mlsa.specs.Mlsa.{Part, part, weighed}
@@ -28,25 +28,22 @@ pub laid-example : flat 2 (0f ∷ 1f ∷ ½f ∷ 2f ∷ []) (2f ∷ 1f ∷ 0f �
 unfolding flat lane
 laid-example = refl
 
--- a part with the answers of rows 4 to 1, one for each lane, weighed
-abbrev pub answered : Pair → Pair → Part → Part
-answered y12 y34 p =
-    part (p .d1) (set (set (set (set (p .d2) 4 (y34 .b)) 3 (y34 .a)) 2 (y12 .b)) 1 (y12 .a))
-    (weighed 1 (y12 .a) (weighed 2 (y12 .b) (weighed 3 (y34 .a) (weighed 4 (y34 .b) (p .sums)))))
+-- a part with the answers of rows 5 to 1, weighed
+abbrev pub answered : Numbers → Part → Part
+answered y p =
+    part (p .d1) (set (set (set (set (set (p .d2) 5 (y .last)) 4 (y .second .b)) 3 (y .second .a)) 2 (y .first .b)) 1 (y .first .a))
+    (weighed 1 (y .first .a) (weighed 2 (y .first .b) (weighed 3 (y .second .a) (weighed 4 (y .second .b) (weighed 5 (y .last) (p .sums))))))
 
 -- zeros but for row 1, whose constant is just below ½: twice that is added to the sample and to the sum
 abbrev none : Sums
 none = record { x = 0f; out = 0f }
 
-abbrev twice : Pair
-twice = record { a = 2f; b = 0f }
+abbrev twice : Numbers
+twice = record { first = record { a = 2f; b = 0f }; second = record { a = 0f; b = 0f }; last = 0f }
 
-abbrev zeros : Pair
-zeros = record { a = 0f; b = 0f }
-
-pub answers-stand : answered twice zeros (part [] (replicate 6 1f) none) .d2 ≡ 1f ∷ 2f ∷ 0f ∷ 0f ∷ 0f ∷ 1f ∷ []
+pub answers-stand : answered twice (part [] (replicate 6 1f) none) .d2 ≡ 1f ∷ 2f ∷ 0f ∷ 0f ∷ 0f ∷ 0f ∷ []
 answers-stand = refl
 
-pub answers-weighed : answered twice zeros (part [] (replicate 6 1f) none) .sums ≡ weighed 1 2f none
+pub answers-weighed : answered twice (part [] (replicate 6 1f) none) .sums ≡ weighed 1 2f none
 unfolding weighed ofBits add mul neg
 answers-weighed = refl

@@ -2,11 +2,13 @@
 ghost use mathlib.Core.Path.{_≡_};
 ghost use mathlib.Core.List.{List};
 ghost use lib.Ieee.{Float};
+ghost use Rattle.number.specs.F64.{0f};
 ghost use Prim.Native.Nat.{_*_, _≤_, _<_};
 ghost use lib.ListN.{length};
-ghost use Rattle.mlsa.specs.Mlsa.{part, weighed, firstRow, secondRow, passed, ended, df1Of, df2Of, filter, dfOf, freshFilter};
+ghost use Rattle.mlsa.specs.Mlsa.{part, weighed, firstRow, passed, ended, df1Of, df2Of, filter, dfOf, freshFilter};
 ghost use Rattle.mlsa.specs.Laid.{flat, answered};
-use lanes::Pair;
+use lanes::five;
+use lanes::five::Numbers;
 
 pub mod layout;
 
@@ -96,36 +98,28 @@ fn df1(d11: &mut [f64], d12: &mut [f64], x: f64, alpha: f64, c: &[f64]) -> f64
     s.x + s.out
 }
 
-// Row i of the second part, whose taps are row i - 1 of d21.
-fn second_row(d21: &mut [f64], d22: &mut [f64], i: usize, s: Sums, alpha: f64, c: &[f64]) -> Sums
-    requires { ⌜ (1 ≤ i) × (i < 6) × (length (now d22) ≡ 6) × (2 ≤ length (now c)) × (6 * length (now c) ≤ length (now d21)) ⌝ }
-    ensures { λ r. ⌜ part (now (d21 .exit)) (now (d22 .exit)) r ≡ secondRow alpha (now (c .entry)) i (part (now (d21 .entry)) (now (d22 .entry)) s) ⌝ }
-{
-    let n = c.len();
-    let from = (i - 1) * n;
-    let y = fir::fir(&mut d21[from..from + n], d22[i - 1], alpha, c);
-    d22[i] = y;
-    weigh(i, y, s)
-}
-
-// The answers of rows 4 to 1, weighed in this order, and the sample that the second part passes on.
-fn answer(d22: &mut [f64], y12: Pair, y34: Pair, s: Sums) -> f64
+// The answers of rows 5 to 1, weighed in this order, and the sample that the second part passes on.
+fn answer(d22: &mut [f64], y: Numbers, x: f64) -> f64
     requires { ⌜ length (now d22) ≡ 6 ⌝ }
-    ensures { λ r. ⌜ ((l : List Float) → passed l (now (d22 .exit)) r ≡ ended (answered y12 y34 (part l (now (d22 .entry)) s))) ⌝ }
+    ensures { λ r. ⌜ ((l : List Float) → passed l (now (d22 .exit)) r ≡ ended (answered y (part l (now (d22 .entry)) (record { x = x; out = 0f })))) ⌝ }
 {
-    let s4 = weigh(4, y34.b, s);
-    let s3 = weigh(3, y34.a, s4);
-    let s2 = weigh(2, y12.b, s3);
-    let s1 = weigh(1, y12.a, s2);
-    d22[4] = y34.b;
-    d22[3] = y34.a;
-    d22[2] = y12.b;
-    d22[1] = y12.a;
+    let begun = Sums { x, out: 0.0 };
+    let s5 = weigh(5, y.last, begun);
+    let s4 = weigh(4, y.second.b, s5);
+    let s3 = weigh(3, y.second.a, s4);
+    let s2 = weigh(2, y.first.b, s3);
+    let s1 = weigh(1, y.first.a, s2);
+    d22[5] = y.last;
+    d22[4] = y.second.b;
+    d22[3] = y.second.a;
+    d22[2] = y.first.b;
+    d22[1] = y.first.a;
     d22[0] = s1.x;
     s1.x + s1.out
 }
 
-// The second part, with rows 1 and 2 at once, and rows 3 and 4: each reads the answer of the row before it as it was, so that row 5 goes first.
+// The second part, with all rows at once: each reads the answer of the row before it as it was. The taps of row 5 are row 4 of d21, behind those that
+// are laid side by side.
 fn df2_laid(
     first: &mut [f64],
     second: &mut [f64],
@@ -140,13 +134,15 @@ fn df2_laid(
     ensures { λ r. ⌜ passed (flat (length (now (c .entry))) (now (first .exit)) (now (second .exit)) (now (d21 .exit))) (now (d22 .exit)) r
         ≡ df2Of alpha (now (c .entry)) (flat (length (now (c .entry))) (now (first .entry)) (now (second .entry)) (now (d21 .entry))) (now (d22 .entry)) x ⌝ }
 {
-    let begun = Sums { x, out: 0.0 };
-    let s = second_row(d21, d22, 5, begun, alpha, c);
-    let heads12 = lanes::at(d22, 0);
-    let heads34 = lanes::at(d22, 1);
-    let y12 = lanes::fir(first, heads12, alpha, c);
-    let y34 = lanes::fir(second, heads34, alpha, c);
-    answer(d22, y12, y34, s)
+    let heads = Numbers {
+        first: lanes::at(d22, 0),
+        second: lanes::at(d22, 1),
+        last: d22[4],
+    };
+    let from = 4 * c.len();
+    let fifth = &mut d21[from..from + c.len()];
+    let y = five::fir(first, second, fifth, heads, alpha, c);
+    answer(d22, y, x)
 }
 
 // The sample after both parts, with the first four rows of d21 laid side by side in two pairs.

@@ -18,6 +18,9 @@ weigh-requires-3 c κs = search needs
 weigh-requires-4 : tie.Need-weigh-requires-4
 weigh-requires-4 c κs = search needs
 
+weigh-requires-5 : tie.Need-weigh-requires-5
+weigh-requires-5 c κs = search needs
+
 slice-write-d22 : tie.Need-slice-write-d22
 slice-write-d22 c = search needs
 
@@ -33,11 +36,14 @@ slice-write-d22-4 c = search needs
 slice-write-d22-5 : tie.Need-slice-write-d22-5
 slice-write-d22-5 c = simp length-set (omega arith)
 
+slice-write-d22-6 : tie.Need-slice-write-d22-6
+slice-write-d22-6 c = simp length-set (omega arith)
+
 same-length : tie.Need-same-length
 same-length c = search needs
 
 returns : tie.Need-returns
-returns c l = rw (c .before .weigh4 .ensures, c .before .before .weigh3 .ensures, c .before .before .before .weigh2 .ensures, c .before .before .before .before .weigh .ensures) refl
+returns c l = rw (c .before .weigh5 .ensures, c .before .before .weigh4 .ensures, c .before .before .before .weigh3 .ensures, c .before .before .before .before .weigh2 .ensures, c .before .before .before .before .before .weigh .ensures) refl
 
 pub answer-spec : {M : Type 1} → statement M
 answer-spec =
@@ -47,10 +53,12 @@ answer-spec =
     weigh-requires-2
     weigh-requires-3
     weigh-requires-4
+    weigh-requires-5
     slice-write-d22
     slice-write-d22-2
     slice-write-d22-3
     slice-write-d22-4
     slice-write-d22-5
+    slice-write-d22-6
     same-length
     returns)
