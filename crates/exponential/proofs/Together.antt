@@ -1,14 +1,14 @@
 -- The parts of an answer, joined, are the answer: without a rest the sum is 1, and 1 times the power is the power. Assumes nothing.
 use mathlib.Core.Path.{_≡_, refl, sym, ap, _∙_, subst}
 use mathlib.Core.Bool.{Bool, true, false, cond}
-use Prim.Native.Nat.{ℕ, zero, _+_, _-_, _*_, _^_, _≤_}
-use native.Mathlib.Nat.{lt-of-not-le, mul-one, one-mul}
+use Prim.Native.Nat.{ℕ, _+_, _-_, _*_, _^_, _≤_}
+use native.Mathlib.Nat.{lt-of-not-le, one-mul}
 use native.Mathlib.Decide.{decLe}
 use native.Mathlib.Omega.{arith}
 use lib.IntN.{pos}
-use lib.Dec.{T, lit≤, lit<, ltb}
+use lib.Dec.{T, ltb}
 use lib.Pow.{pow-add, pow-pos, pow-mono}
-use lib.Ieee.{Float, nan, inf, binary64, fits, ofBits, ofInt, add, mul, neg, div, ne, unlike, isNan}
+use lib.Ieee.{Float, nan, inf, binary64, fits, ofBits, ofInt, add, mul, neg, ne, unlike}
 use lib.Ieee.Bits.{ofBits-fits}
 use lib.Ieee.Exact.{HasValue}
 use lib.Ieee.Fits.{mul-fits}
@@ -18,7 +18,7 @@ use Rattle.root.proofs.Floats.{units-are, same-float}
 use Rattle.elementary.specs.Horner.{horner}
 use Rattle.elementary.proofs.Rounding.{Ordinary}
 use Rattle.elementary.proofs.Scaling.{scale-value}
-use Rattle.exponential.specs.Exp.{multiples, powerOfTwo, coefficients, sumAt, unit, restOf, insideOf, expOf}
+use Rattle.exponential.specs.Exp.{multiples, powerOfTwo, coefficients, sumAt, unit, restOf, insideOf}
 use Rattle.exponential.proofs.Cases.{without-rest, with-rest}
 use Rattle.exponential.proofs.Powers.{field, power-value}
 

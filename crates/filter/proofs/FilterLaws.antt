@@ -1,14 +1,12 @@
 -- A sample by what its steps come to, a stretch with its rows laid side by side, its gains before the rest, and the room for the rows of taps. Assumes nothing.
 use mathlib.Core.Path.{_≡_, refl, sym, ap, _∙_}
 use mathlib.Core.List.{List, [], _∷_}
-use mathlib.Core.Bool.{true, false}
 use Prim.Native.Nat.{ℕ, _*_, _≤_, _<_}
 use native.Mathlib.Nat.{mul-le-mul-right}
 use native.Mathlib.Omega.{arith}
 use lib.ListN.{length}
-use lib.Ieee.{Float, ne, add}
-use Rattle.number.specs.F64.{_⊕_, _⊗_, _‼_, 0f}
-use Rattle.exponential.specs.Exp.{expOf}
+use lib.Ieee.{Float, add}
+use Rattle.number.specs.F64.{_⊕_, _⊗_, _‼_}
 use Rattle.history.specs.Through.{Turned, passage, through}
 use Rattle.history.proofs.ThroughLaws.{through-both}
 use Rattle.vectors.specs.Vectors.{plus}

@@ -1,9 +1,9 @@
 -- The gains of stage 0 in blocks: each by the parts of its exp, which are made before. Assumes nothing.
-use mathlib.Core.Path.{_≡_, refl, sym, ap, _∙_, subst}
+use mathlib.Core.Path.{_≡_, refl, ap, _∙_}
 use mathlib.Core.List.{List, [], _∷_}
 use mathlib.Core.Bool.{true, false}
 use mathlib.Core.Logic.{_⊎_, inl, inr}
-use Prim.Native.Nat.{ℕ, _+_, _≤_, _<_}
+use Prim.Native.Nat.{ℕ, _+_, _<_}
 use native.Mathlib.Nat.{eq-or-lt-of-le}
 use native.Mathlib.Numerals.{add-one}
 use native.Mathlib.Omega.{arith}
@@ -12,7 +12,7 @@ use lib.Seq.{getD-set-same, getD-set-other}
 use lib.Ieee.{Float, nan, ne}
 use Rattle.number.specs.F64.{_⊕_, _⊗_, _‼_, 0f}
 use Rattle.exponential.specs.Exp.{sumAt, expOf}
-use Rattle.history.specs.Through.{Turned, through}
+use Rattle.history.specs.Through.{Turned}
 use Rattle.history.proofs.ThroughLaws.{fromHere, through-turn}
 use Rattle.filter.specs.Zero.{gained, gainOf, onBy, Prepared}
 

@@ -53,6 +53,11 @@ pub gains-of-zeros : through (zero.gainOf 2f) (whole 1000) (0f ∷ − 0f ∷ []
 unfolding through zero.gained ne eq neg add ofBits ofInt
 gains-of-zeros = refl
 
+-- which is where it is after two samples
+pub on-by-two : zero.onBy 2f (whole 1000) 2 ≡ whole 1004
+unfolding zero.onBy add ofBits ofInt
+on-by-two = refl
+
 -- the samples 0 and -0, from such a filter on: 16.54750482608 and 29.77021682852346
 abbrev zero-stretch : List Float
 zero-stretch = through (zero.sampleOf ½f 2f (whole 1 ∷ ½f ∷ quarter ∷ [])) (state loud (mlsa.filter rising falling six-rows falling)) (0f ∷ − 0f ∷ []) .made

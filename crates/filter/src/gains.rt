@@ -2,10 +2,10 @@
 // and then their sums over arrays, which the compiler makes vectors of.
 ghost use mathlib.Core.Path.{_≡_};
 ghost use mathlib.Core.List.{[], _∷_};
-ghost use Prim.Native.Nat.{ℕ, _≤_, _<_};
+ghost use Prim.Native.Nat.{_≤_};
 ghost use lib.ListN.{length};
 ghost use lib.Ieee.{Float};
-ghost use Rattle.number.specs.F64.{_⊗_, _‼_};
+ghost use Rattle.number.specs.F64.{_⊗_};
 ghost use Rattle.exponential.specs.Exp.{sumAt, expOf};
 ghost use Rattle.history.specs.Through.{passage, through};
 ghost use Rattle.filter.specs.Zero.{gained, gainOf, onBy, Prepared};

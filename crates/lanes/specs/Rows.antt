@@ -8,7 +8,7 @@ use Rattle.fir.specs.declared.Carried.{Carried}
 use Rattle.fir.specs.Fir.{Taps}
 use Rattle.lanes.specs.declared.five.Numbers.{Numbers}
 use Rattle.lanes.specs.declared.five.Along.{Along}
-use Rattle.lanes.specs.Lane.{lane, side, sideOn}
+use Rattle.lanes.specs.Lane.{lane}
 
 -- row k, of n taps
 abbrev pub rowAt : ℕ → ℕ → (first second last : List Float) → List Float

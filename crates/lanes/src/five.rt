@@ -5,11 +5,11 @@ ghost use Prim.Native.Nat.{ℕ, _+_, _-_, _*_, _/_, _≤_, _<_};
 ghost use lib.ListN.{length};
 ghost use Rattle.fir.specs.Fir.{start, group, tap, groups, singles, firOf};
 ghost use Rattle.lanes.specs.Rows.{rowAt, numberAt, tapsAt};
+use crate::Abreast;
+use crate::Pair;
 use crate::group;
 use crate::start;
 use crate::tap;
-use crate::Abreast;
-use crate::Pair;
 use fir::Carried;
 
 // A number for each row.

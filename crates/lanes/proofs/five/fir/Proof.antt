@@ -70,7 +70,7 @@ returns c =
     let n = length (given .c .now) in
     let after = c .before .before .before .before .before .before .before .before .before .before .before .singles in
     let made : (k : ℕ) → k < 5 → filtered (tapsAt k n (after .last .0) (after .last .1 .0) (after .last .1 .1 .0) (after .result))
-        ≡ firOf (given .alpha) (numberAt k (given .x)) (given .c .now) (rowAt k n (given .first .now) (given .second .now) (given .last .now)) =
+    ≡ firOf (given .alpha) (numberAt k (given .x)) (given .c .now) (rowAt k n (given .first .now) (given .second .now) (given .last .now)) =
     λ k h. ap filtered (taps-by _ _ _ (rowAt k n (given .first .now) (given .second .now) (given .last .now)) n _ _ _ (length-row-at n (given .first .now) (given .second .now) (given .last .now) (room .3) k h) (room .0) (c .before .before .before .before .before .before .before .before .before .before .before .before .before .before .before .before .before .before .before .before .before .before .before .before .before .before .before .before .before .before .before .start-all .ensures k h) (c .before .before .before .before .before .before .before .before .before .before .before .before .before .before .before .before .before .before .before .before .before .groups .ensures k h) (after .ensures k h)) in
     each-row _ (made 0 (omega arith)) (made 1 (omega arith)) (made 2 (omega arith)) (made 3 (omega arith)) (made 4 (omega arith))
 
