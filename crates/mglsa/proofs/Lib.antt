@@ -1,2 +1,3 @@
 pub mod MglsaLaws
+mod StandingLaws
 mod PairLaws

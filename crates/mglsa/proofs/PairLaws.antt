@@ -1,59 +1,59 @@
 -- Two rows side by side: a tap of each, all taps, both stages, and where the rows lie. Assumes nothing.
 use mathlib.Core.Path.{_≡_, refl, sym, _∙_, ap}
-use mathlib.Core.List.{List, [], _++_, append-nil, append-assoc}
+use mathlib.Core.List.{List, _++_, append-assoc}
 use Prim.Native.Nat.{ℕ, _+_, _-_, _*_, _≤_, _<_}
 use native.Mathlib.Nat.{add-zero, suc-mul}
 use native.Mathlib.Numerals.{add-one}
 use native.Mathlib.Omega.{arith}
 use lib.Ieee.{Float, nan}
-use lib.ListN.{length, take, drop, set, length-set, length-drop, length-append, take-append-drop}
-use lib.Seq.{take-append-add, length-take-le, take-all, take-take, drop-drop, take-at, drop-at, take-set-le, take-set-lt, drop-set-add, drop-set-lt, getD-take, getD-drop, getD-set-same, getD-set-other}
+use lib.ListN.{length, take, drop, set, length-drop, length-append, take-append-drop}
+use lib.Seq.{take-append-add, length-take-le, take-take, drop-drop, take-at, drop-at, take-set-le, take-set-lt, drop-set-add, drop-set-lt, getD-take, getD-drop}
 use Rattle.number.specs.F64.{_⊕_, _⊖_, _⊗_, 1f, _‼_}
 use Rattle.number.specs.Lists.{row, putRow}
-use Rattle.number.proofs.Lists.{left-none, length-row, later-row, putRow-rest}
+use Rattle.number.proofs.Lists.{length-row, later-row, putRow-rest}
 use Rattle.mglsa.specs.declared.pair.Both.{Both}
-use Rattle.mglsa.specs.Mglsa.{Passed, passed, warpAt, warps, warped, pushed, dffOf, stageOf}
-use Rattle.mglsa.specs.Pair.{Warped, bothOf}
-use Rattle.mglsa.proofs.MglsaLaws.{dff-of, length-pushed, length-stage}
+use Rattle.mglsa.specs.Mglsa.{Passed, passed, warps, warped, dffOf, stageOf}
+use Rattle.mglsa.specs.Pair.{standing, Warped, bothOf}
+use Rattle.mglsa.proofs.MglsaLaws.{length-stage}
+use Rattle.mglsa.proofs.StandingLaws.{standing-start, row-warped, row-before, stage-made}
 
 -- ---- a tap of each row
 
 module _ (alpha : Float) (c d : List Float) (i n : ℕ) (s : Both) where
   abbrev tap : Float
-  tap = d ‼ i ⊕ alpha ⊗ (d ‼ (i + 1) ⊖ s .before)
+  tap = s .here ⊕ alpha ⊗ (d ‼ (i + 1) ⊖ s .before)
 
   abbrev tap2 : Float
-  tap2 = d ‼ (n + i) ⊕ alpha ⊗ (d ‼ (n + i + 1) ⊖ s .before2)
+  tap2 = s .here2 ⊕ alpha ⊗ (d ‼ (n + i + 1) ⊖ s .before2)
 
   abbrev after : List Float
-  after = set (set d i tap) (n + i) tap2
+  after = set (set d (i + 1) tap) (n + i + 1) tap2
 
   abbrev carried : Both
-  carried = record { before = tap; sum = s .sum ⊕ tap ⊗ c ‼ (i + 1); before2 = tap2; sum2 = s .sum2 ⊕ tap2 ⊗ c ‼ (i + 1) }
+  carried = record { before = tap; here = d ‼ (i + 1); sum = s .sum ⊕ tap ⊗ c ‼ (i + 1); before2 = tap2; here2 = d ‼ (n + i + 1); sum2 = s .sum2 ⊕ tap2 ⊗ c ‼ (i + 1) }
 
-  module _ (some : 1 ≤ i) (most : i + 1 < n) (long : n + n ≤ length d) (b : s .before ≡ d ‼ (i - 1)) (b2 : s .before2 ≡ d ‼ (n + i - 1)) where
-    first-half : take n after ≡ set (take n d) i tap
-    first-half = take-set-le n (set d i tap) (n + i) tap2 (omega arith) ∙ take-set-lt n d i tap (omega arith)
+  module _ (some : 1 ≤ i) (most : i + 1 < n) (long : n + n ≤ length d)
+      (b : s .before ≡ standing i (s .here) (take n d) ‼ (i - 1)) (b2 : s .before2 ≡ standing i (s .here2) (drop n d) ‼ (i - 1)) where
+    first-half : take n after ≡ set (take n d) (i + 1) tap
+    first-half = take-set-le n (set d (i + 1) tap) (n + i + 1) tap2 (omega arith) ∙ take-set-lt n d (i + 1) tap (omega arith)
 
-    second-half : drop n after ≡ set (drop n d) i tap2
-    second-half = drop-set-add n (set d i tap) i tap2 ∙ ap (λ (l : List Float). set l i tap2) (drop-set-lt n d i tap (omega arith))
+    on : n + i + 1 ≡ n + (i + 1)
+    on = omega arith
+
+    second-half : drop n after ≡ set (drop n d) (i + 1) tap2
+    second-half = ap (λ (k : ℕ). drop n (set (set d (i + 1) tap) k tap2)) on ∙ drop-set-add n (set d (i + 1) tap) (i + 1) tap2 ∙ ap (λ (l : List Float). set l (i + 1) tap2) (drop-set-lt n d (i + 1) tap (omega arith))
 
     pub warped-both : Warped alpha c i n s d carried after
-    unfolding warpAt
     warped-both =
-        let here : take n d ‼ i ≡ d ‼ i = getD-take n d i nan (omega arith) in
-        let next : take n d ‼ (i + 1) ≡ d ‼ (i + 1) = getD-take n d (i + 1) nan (omega arith) in
-        let before : take n d ‼ (i - 1) ≡ s .before = getD-take n d (i - 1) nan (omega arith) ∙ sym b in
-        let on : n + (i + 1) ≡ n + i + 1 = omega arith in
-        let back : n + (i - 1) ≡ n + i - 1 = omega arith in
-        let here2 : drop n d ‼ i ≡ d ‼ (n + i) = getD-drop n d i nan in
-        let next2 : drop n d ‼ (i + 1) ≡ d ‼ (n + i + 1) = getD-drop n d (i + 1) nan ∙ ap (λ (k : ℕ). d ‼ k) on in
-        let before2 : drop n d ‼ (i - 1) ≡ s .before2 = getD-drop n d (i - 1) nan ∙ ap (λ (k : ℕ). d ‼ k) back ∙ sym b2 in
+        let fits : i + 1 < length (take n d) = rw (length-take-le n d (omega arith)) most in
+        let fits2 : i + 1 < length (drop n d) = rw length-drop (omega arith) in
+        let next : d ‼ (i + 1) ≡ take n d ‼ (i + 1) = sym (getD-take n d (i + 1) nan (omega arith)) in
+        let next2 : d ‼ (n + i + 1) ≡ drop n d ‼ (i + 1) = ap (λ (k : ℕ). d ‼ k) on ∙ sym (getD-drop n d (i + 1) nan) in
         record {
-          first = rw (first-half, here, next, before) refl;
-          second = rw (second-half, here2, next2, before2) refl;
-          before = sym (getD-set-other (set d i tap) (n + i) i tap2 nan (λ e. absurd (omega (arith, e))) ∙ getD-set-same d i tap nan (omega arith));
-          before2 = sym (getD-set-same (set d i tap) (n + i) tap2 nan (rw length-set (omega arith)));
+          first = row-warped alpha c (take n d) (take n after) i (s .sum) (s .before) (s .here) _ some fits b next first-half;
+          second = row-warped alpha c (drop n d) (drop n after) i (s .sum2) (s .before2) (s .here2) _ some fits2 b2 next2 second-half;
+          before = row-before alpha c (take n d) (take n after) i (s .sum) (s .before) (s .here) _ some fits b next first-half;
+          before2 = row-before alpha c (drop n d) (drop n after) i (s .sum2) (s .before2) (s .here2) _ some fits2 b2 next2 second-half;
         }
 
 -- ---- all taps of a row
@@ -64,7 +64,7 @@ unfolding warped
 warped-start alpha c l n y e p = rw (e, p) refl
 
 -- the rows of a list of n + n
-module _ (d : List Float) (n : ℕ) (some : 1 ≤ n) (e : length d ≡ n + n) where
+module _ (d : List Float) (n : ℕ) (some : 2 ≤ n) (e : length d ≡ n + n) where
   pub first-length : length (take n d) ≡ n
   first-length = length-take-le n d (omega arith)
 
@@ -77,32 +77,14 @@ module _ (d : List Float) (n : ℕ) (some : 1 ≤ n) (e : length d ≡ n + n) wh
   pub second-tap : drop n d ‼ 0 ≡ d ‼ n
   second-tap = getD-drop n d 0 nan ∙ rw add-zero refl
 
--- a tap by its place, written otherwise
-pub tap-at : (d : List Float) (x : Float) (i j : ℕ) → x ≡ d ‼ i → i ≡ j → x ≡ d ‼ j
-tap-at d x i j e p = e ∙ ap (λ (k : ℕ). d ‼ k) p
+  -- before the loop each stands as it is
+  pub first-start : (here : Float) → here ≡ d ‼ 1 → standing 1 here (take n d) ≡ take n d
+  first-start here h = standing-start (take n d) here (omega (arith, first-length)) (h ∙ sym (getD-take n d 1 nan some))
+
+  pub second-start : (here : Float) → here ≡ d ‼ (n + 1) → standing 1 here (drop n d) ≡ drop n d
+  second-start here h = standing-start (drop n d) here (omega (arith, second-length)) (h ∙ sym (getD-drop n d 1 nan))
 
 -- ---- both stages
-
--- the rows p and q put one after the other into a list of n + n
-rows-put : (d p q d1 d2 : List Float) (n : ℕ) → length d ≡ n + n → length p ≡ n → d1 ≡ putRow 0 n p d → d2 ≡ putRow n (n + n) q d1 → d2 ≡ p ++ q
-rows-put d p q d1 d2 n e lp put put2 =
-    let all : n - 0 ≡ n = omega arith in
-    let half : n + n - n ≡ n = omega arith in
-    let first : d1 ≡ p ++ drop n d = put ∙ rw all refl in
-    let none : drop n (drop n d) ≡ [] = left-none (drop n d) n (rw length-drop (omega arith)) in
-    put2 ∙ rw (half, first, take-at p (drop n d) n lp, drop-at p (drop n d) n lp, none) (ap (λ (l : List Float). p ++ l) (append-nil q))
-
--- the second row is not touched by what is put into the first
-second-row : (d p d1 : List Float) (n : ℕ) → length d ≡ n + n → length p ≡ n → d1 ≡ putRow 0 n p d → row n (n + n) d1 ≡ drop n d
-second-row d p d1 n e lp put =
-    let all : n - 0 ≡ n = omega arith in
-    let half : n + n - n ≡ n = omega arith in
-    let first : d1 ≡ p ++ drop n d = put ∙ rw all refl in
-    rw (half, first, drop-at p (drop n d) n lp) (take-all n (drop n d) (rw length-drop (omega arith)))
-
--- the first row
-first-row : (d : List Float) (n : ℕ) → row 0 n d ≡ take n d
-first-row d n = let all : n - 0 ≡ n = omega arith in rw all refl
 
 -- both, by what each row comes to
 both-of : (alpha : Float) (c d p q after : List Float) (x y y2 : Float)
@@ -112,25 +94,53 @@ both-of : (alpha : Float) (c d p q after : List Float) (x y y2 : Float)
 unfolding bothOf
 both-of alpha c d p q after x y y2 a b e = rw (e, ← a, ← b) refl
 
--- both, as the calls leave the rows
-module _ (alpha : Float) (c d taps p q : List Float) (x y y2 : Float) where
+-- both, as the loop and the stores after it leave the rows
+module _ (alpha : Float) (c d taps : List Float) (s : Both) (x : Float) where
   abbrev size : ℕ
   size = length c
 
-  pub both-made : 1 ≤ size → length taps ≡ size + size
-      → passed (take size taps) y ≡ warped alpha c (take size d)
-      → passed (drop size taps) y2 ≡ warped alpha c (drop size d)
-      → p ≡ pushed (alpha ⊗ taps ‼ 0 ⊕ (1f ⊖ alpha ⊗ alpha) ⊗ (x ⊖ y)) (row 0 size taps)
-      → q ≡ pushed (alpha ⊗ taps ‼ size ⊕ (1f ⊖ alpha ⊗ alpha) ⊗ (x ⊖ y ⊖ y2)) (row size (size + size) (putRow 0 size p taps))
-      → passed (putRow size (size + size) q (putRow 0 size p taps)) (x ⊖ y ⊖ y2) ≡ bothOf alpha c (passed d x)
-  both-made some e first second pushes pushes2 =
-      let lp : length p ≡ size = ap length pushes ∙ length-pushed _ (row 0 size taps) ∙ ap length (first-row taps size) ∙ first-length taps size some e in
-      let p-is : p ≡ pushed (alpha ⊗ take size taps ‼ 0 ⊕ (1f ⊖ alpha ⊗ alpha) ⊗ (x ⊖ y)) (take size taps) = pushes ∙ rw (first-row taps size, first-tap taps size some e) refl in
-      let q-is : q ≡ pushed (alpha ⊗ drop size taps ‼ 0 ⊕ (1f ⊖ alpha ⊗ alpha) ⊗ (x ⊖ y ⊖ y2)) (drop size taps) = pushes2 ∙ rw (second-row taps p (putRow 0 size p taps) size e lp refl, second-tap taps size some e) refl in
-      both-of alpha c d p q (putRow size (size + size) q (putRow 0 size p taps)) x y y2
-      (dff-of alpha c (take size d) (take size taps) p x y first p-is)
-      (dff-of alpha c (drop size d) (drop size taps) q (x ⊖ y) y2 second q-is)
-      (rows-put taps p q (putRow 0 size p taps) (putRow size (size + size) q (putRow 0 size p taps)) size e lp refl refl)
+  abbrev out : Float
+  out = x ⊖ s .sum
+
+  abbrev out2 : Float
+  out2 = out ⊖ s .sum2
+
+  -- what goes in at the front of either row
+  abbrev in1 : Float
+  in1 = alpha ⊗ taps ‼ 0 ⊕ (1f ⊖ alpha ⊗ alpha) ⊗ out
+
+  abbrev in2 : Float
+  in2 = alpha ⊗ taps ‼ size ⊕ (1f ⊖ alpha ⊗ alpha) ⊗ out2
+
+  abbrev moved : List Float
+  moved = set (set taps 1 (taps ‼ 0)) (size + 1) (taps ‼ size)
+
+  abbrev stored : List Float
+  stored = set (set moved 0 in1) size in2
+
+  module _ (some : 2 ≤ size) (e : length taps ≡ size + size) where
+    first-stored : take size stored ≡ set (set (take size taps) 1 (take size taps ‼ 0)) 0 (alpha ⊗ take size taps ‼ 0 ⊕ (1f ⊖ alpha ⊗ alpha) ⊗ out)
+    first-stored =
+        rw (first-tap taps size some e) (
+        take-set-le size (set moved 0 in1) size in2 (omega arith) ∙ take-set-lt size moved 0 in1 (omega arith)
+        ∙ ap (λ (l : List Float). set l 0 in1) (take-set-le size (set taps 1 (taps ‼ 0)) (size + 1) (taps ‼ size) (omega arith) ∙ take-set-lt size taps 1 (taps ‼ 0) (omega arith)))
+
+    second-stored : drop size stored ≡ set (set (drop size taps) 1 (drop size taps ‼ 0)) 0 (alpha ⊗ drop size taps ‼ 0 ⊕ (1f ⊖ alpha ⊗ alpha) ⊗ out2)
+    second-stored =
+        let at : size ≡ size + 0 = omega arith in
+        rw (second-tap taps size some e) (
+        ap (λ (k : ℕ). drop size (set (set moved 0 in1) k in2)) at ∙ drop-set-add size (set moved 0 in1) 0 in2
+        ∙ ap (λ (l : List Float). set l 0 in2) (drop-set-lt size moved 0 in1 (omega arith) ∙ drop-set-add size (set taps 1 (taps ‼ 0)) 1 (taps ‼ size)
+        ∙ ap (λ (l : List Float). set l 1 (taps ‼ size)) (drop-set-lt size taps 1 (taps ‼ 0) (omega arith))))
+
+    pub both-made : passed (standing (size - 1) (s .here) (take size taps)) (s .sum) ≡ warped alpha c (take size d)
+        → passed (standing (size - 1) (s .here2) (drop size taps)) (s .sum2) ≡ warped alpha c (drop size d)
+        → passed stored out2 ≡ bothOf alpha c (passed d x)
+    both-made first second =
+        both-of alpha c d (take size stored) (drop size stored) stored x (s .sum) (s .sum2)
+        (stage-made alpha c (take size d) (take size taps) (take size stored) size (s .here) x (s .sum) some (first-length taps size some e) first first-stored)
+        (stage-made alpha c (drop size d) (drop size taps) (drop size stored) size (s .here2) out (s .sum2) some (second-length taps size some e) second second-stored)
+        (sym (take-append-drop size stored))
 
 -- ---- where the rows lie
 

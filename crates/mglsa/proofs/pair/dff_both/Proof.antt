@@ -1,6 +1,7 @@
--- `dff_both` meets its contract: each row by its taps and its sum. Assumes nothing.
+-- `dff_both` meets its contract: each row by its taps, its sum and the stores after the loop. Assumes nothing.
 use borrow.Author.Needs.{needs}
 use native.Mathlib.Omega.{arith}
+use lib.ListN.{length-set}
 use Rattle.mglsa.proofs.PairLaws.{both-made}
 use Rattle.mglsa.proofs.pair.dff_both.Statement.{statement}
 use Rattle.mglsa.proofs.pair.dff_both.Tie as tie
@@ -17,41 +18,35 @@ mul-second c = search needs
 slice-read-second : tie.Need-slice-read-second
 slice-read-second c = search needs
 
-sub-push : tie.Need-sub-push
-sub-push c = search needs
+slice-write-d : tie.Need-slice-write-d
+slice-write-d c = search needs
 
-part-push-start : tie.Need-part-push-start
-part-push-start c = search needs
+add-d : tie.Need-add-d
+add-d c = search needs
 
-part-push-end : tie.Need-part-push-end
-part-push-end c = search needs
+mul-d : tie.Need-mul-d
+mul-d c = search needs
 
-push-requires : tie.Need-push-requires
-push-requires c κs = search needs
+slice-write-d-2 : tie.Need-slice-write-d-2
+slice-write-d-2 c = simp length-set (omega arith)
 
-add-push : tie.Need-add-push
-add-push c = search needs
+slice-write-d-3 : tie.Need-slice-write-d-3
+slice-write-d-3 c = simp length-set (omega arith)
 
-mul-push : tie.Need-mul-push
-mul-push c = search needs
+mul-d-2 : tie.Need-mul-d-2
+mul-d-2 c = search needs
 
-sub-push-2 : tie.Need-sub-push-2
-sub-push-2 c = search needs
-
-part-push-start-2 : tie.Need-part-push-start-2
-part-push-start-2 c = search needs
-
-part-push-end-2 : tie.Need-part-push-end-2
-part-push-end-2 c = search needs
-
-push-requires-2 : tie.Need-push-requires-2
-push-requires-2 c κs = search needs
+slice-write-d-4 : tie.Need-slice-write-d-4
+slice-write-d-4 c = simp length-set (omega arith)
 
 same-length : tie.Need-same-length
 same-length c = search needs
 
 returns : tie.Need-returns
-returns c = both-made _ _ _ _ _ _ _ _ _ (omega arith) (omega arith) (c .before .before .before .before .before .before .before .before .before .before .before .before .before .before .warp-both .ensures .0) (c .before .before .before .before .before .before .before .before .before .before .before .before .before .before .warp-both .ensures .1) (c .before .before .before .before .before .before .push .ensures) (c .before .before .push2 .ensures)
+returns c =
+    let s = c .before .before .before .before .before .before .before .before .before .before in
+    let warp = c .before .before .before .before .before .before .warp-both in
+    both-made (s .args .alpha) (s .args .c .now) (s .args .d .now) (warp .last .0) (warp .result) (s .args .x) (s .pre .0) (omega arith) (warp .ensures .0) (warp .ensures .1)
 
 pub dff-both-spec : {M : Type 1} → statement M
 dff-both-spec =
@@ -61,15 +56,12 @@ dff-both-spec =
     slice-read-first
     mul-second
     slice-read-second
-    sub-push
-    part-push-start
-    part-push-end
-    push-requires
-    add-push
-    mul-push
-    sub-push-2
-    part-push-start-2
-    part-push-end-2
-    push-requires-2
+    slice-write-d
+    add-d
+    mul-d
+    slice-write-d-2
+    slice-write-d-3
+    mul-d-2
+    slice-write-d-4
     same-length
     returns)

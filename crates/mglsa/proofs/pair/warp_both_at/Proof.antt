@@ -9,41 +9,35 @@ use Rattle.mglsa.proofs.pair.warp_both_at.Tie as tie
 add-j : tie.Need-add-j
 add-j c = search needs
 
-mul-first : tie.Need-mul-first
-mul-first c = search needs
+add-next : tie.Need-add-next
+add-next c = search needs
 
-slice-read-first : tie.Need-slice-read-first
-slice-read-first c = search needs
+mul-next : tie.Need-mul-next
+mul-next c = search needs
 
-add-first : tie.Need-add-first
-add-first c = search needs
+slice-read-next : tie.Need-slice-read-next
+slice-read-next c = search needs
 
-mul-first-2 : tie.Need-mul-first-2
-mul-first-2 c = search needs
+add-next2 : tie.Need-add-next2
+add-next2 c = search needs
 
-slice-read-first-2 : tie.Need-slice-read-first-2
-slice-read-first-2 c = search needs
+mul-next2 : tie.Need-mul-next2
+mul-next2 c = search needs
 
-mul-second : tie.Need-mul-second
-mul-second c = search needs
+slice-read-next2 : tie.Need-slice-read-next2
+slice-read-next2 c = search needs
 
-slice-read-second : tie.Need-slice-read-second
-slice-read-second c = search needs
-
-add-second : tie.Need-add-second
-add-second c = search needs
-
-mul-second-2 : tie.Need-mul-second-2
-mul-second-2 c = search needs
-
-slice-read-second-2 : tie.Need-slice-read-second-2
-slice-read-second-2 c = search needs
+add-d : tie.Need-add-d
+add-d c = search needs
 
 mul-d : tie.Need-mul-d
 mul-d c = search needs
 
 slice-write-d : tie.Need-slice-write-d
 slice-write-d c = search needs
+
+add-d-2 : tie.Need-add-d-2
+add-d-2 c = search needs
 
 mul-d-2 : tie.Need-mul-d-2
 mul-d-2 c = search needs
@@ -73,18 +67,16 @@ warp-both-at-spec =
     tie.close
     (tie.spec
     add-j
-    mul-first
-    slice-read-first
-    add-first
-    mul-first-2
-    slice-read-first-2
-    mul-second
-    slice-read-second
-    add-second
-    mul-second-2
-    slice-read-second-2
+    add-next
+    mul-next
+    slice-read-next
+    add-next2
+    mul-next2
+    slice-read-next2
+    add-d
     mul-d
     slice-write-d
+    add-d-2
     mul-d-2
     slice-write-d-2
     add-factor
