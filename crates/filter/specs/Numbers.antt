@@ -1,11 +1,15 @@
 -- Samples at computed points, each with the Rust's numbers. Assumes nothing.
-use Prim.Native.Nat.{ℕ}
-use mathlib.Core.Path.{_≡_, refl}
+use Prim.Native.Nat.{ℕ, zero, suc}
+use native.Mathlib.Omega.{arith}
+use mathlib.Core.Path.{_≡_, refl, sym}
 use mathlib.Core.Bool.{false, true}
 use mathlib.Core.List.{List, [], _∷_, _++_}
 use lib.IntN.{pos, negsuc}
 use lib.Ieee.{Float, fin, binary64, ofBits, ofInt, ne, eq, add, sub, mul, neg}
 use Rattle.number.specs.F64.{−_, 0f, ½f, 2f}
+use Rattle.elementary.specs.Horner.{horner}
+use Rattle.exponential.specs.Exp.{coefficients}
+use Rattle.exponential.specs.Points.{at-zero}
 use Rattle.vectors.specs.Vectors.{plus}
 use Rattle.history.specs.Through.{passage, through}
 use Rattle.fir.specs.Fir.{firOf}
@@ -57,6 +61,12 @@ gains-of-zeros = refl
 pub on-by-two : zero.onBy 2f (whole 1000) 2 ≡ whole 1004
 unfolding zero.onBy add ofBits ofInt
 on-by-two = refl
+
+-- exp(0), which is 1, by the rest 0 and the power 1
+pub one-prepared : zero.Prepared 2f 0f 1 (0f ∷ []) (whole 1 ∷ [])
+unfolding zero.onBy horner coefficients ofBits ofInt add mul
+one-prepared zero h = sym at-zero
+one-prepared (suc i) h = absurd (omega arith)
 
 -- the samples 0 and -0, from such a filter on: 16.54750482608 and 29.77021682852346
 abbrev zero-stretch : List Float

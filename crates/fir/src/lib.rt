@@ -1,9 +1,9 @@
-// The filter `fir` of mlsa.rs: taps in groups of four from index 2 on, then one by one.
+// The steps of the filter `fir` of mlsa.rs: the first two taps, four taps at once, one tap. `lanes::five` takes five rows through all of them.
 ghost use mathlib.Core.Path.{_≡_};
 ghost use mathlib.Core.List.{[], _∷_};
-ghost use Prim.Native.Nat.{_+_, _-_, _/_, _≤_, _<_};
+ghost use Prim.Native.Nat.{_+_, _<_};
 ghost use lib.ListN.{length};
-ghost use Rattle.fir.specs.Fir.{start, group, tap, groups, singles, firOf};
+ghost use Rattle.fir.specs.Fir.{start, group, tap};
 
 // What is carried from tap to tap: the remainder, and the two running sums.
 pub struct Carried {
@@ -137,45 +137,4 @@ pub fn tap(d: &mut [f64], a: f64, c: &[f64], i: usize, s: Carried) -> Carried
     let made = next_one(a, d[i], c[i], s);
     d[i] = made.e0;
     made.on
-}
-
-// The groups of four from index 2 on, as many as there are.
-fn groups(d: &mut [f64], a: f64, c: &[f64], first: Carried) -> Carried
-    requires { ⌜ (2 ≤ length (now d)) × (length (now c) ≡ length (now d)) ⌝ }
-    ensures { λ r. ⌜ record { d = now (d .exit); on = r } ≡ groups a (now (c .entry)) ((length (now (d .entry)) - 2) / 4) 2 (record { d = now (d .entry); on = first }) ⌝ }
-{
-    let mut s = first;
-    let mut i = 2;
-    while i + 4 <= d.len() {
-        s = group(d, a, c, i, s);
-        i += 4;
-    }
-    s
-}
-
-// The taps from index `from` on, one by one.
-fn singles(d: &mut [f64], a: f64, c: &[f64], from: usize, first: Carried) -> Carried
-    requires { ⌜ (from ≤ length (now d)) × (length (now c) ≡ length (now d)) ⌝ }
-    ensures { λ r. ⌜ record { d = now (d .exit); on = r } ≡ singles a (now (c .entry)) (length (now (d .entry)) - from) from (record { d = now (d .entry); on = first }) ⌝ }
-{
-    let mut s = first;
-    let mut i = from;
-    while i < d.len() {
-        s = tap(d, a, c, i, s);
-        i += 1;
-    }
-    s
-}
-
-// The taps after it are left in d.
-pub fn fir(d: &mut [f64], x: f64, alpha: f64, c: &[f64]) -> f64
-    requires { ⌜ (2 ≤ length (now d)) × (length (now c) ≡ length (now d)) ⌝ }
-    ensures { λ r. ⌜ r ≡ firOf alpha x (now (c .entry)) (now (d .entry)) .y ⌝ }
-    ensures { λ _. ⌜ now (d .exit) ≡ firOf alpha x (now (c .entry)) (now (d .entry)) .d ⌝ }
-{
-    let first = start(d, alpha, x);
-    let grouped = groups(d, alpha, c, first);
-    let from = 2 + (d.len() - 2) / 4 * 4;
-    let s = singles(d, alpha, c, from, grouped);
-    s.y0 + s.y1
 }

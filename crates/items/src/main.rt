@@ -4,6 +4,9 @@ ghost use mathlib.Core.Path.{_≡_};
 ghost use Prim.Native.Nat.{_≤_};
 ghost use lib.ListN.{length};
 use configuration::Configuration;
+use lanes::Pair;
+use lanes::five;
+use lanes::five::Numbers;
 use libc::STDOUT_FILENO;
 
 // A log F0 that is fine.
@@ -60,12 +63,20 @@ fn end_line() {
     io::write_all(STDOUT_FILENO, b"\n");
 }
 
-// Items 1 and 2: the answer of `fir` and the taps after it.
+// Items 1 and 2: the answer of `fir` and the taps after it, in the row by itself of the five that go at once, with zeros in the others.
 fn filter(item: u64, d: &mut [f64], x: f64, alpha: f64, c: &[f64])
-    requires { ⌜ (2 ≤ length (now d)) × (length (now c) ≡ length (now d)) ⌝ }
+    requires { ⌜ (2 ≤ length (now d)) × (length (now c) ≡ length (now d)) × (length (now d) ≤ 4) ⌝ }
 {
+    let mut first = [0.0; 8];
+    let mut second = [0.0; 8];
+    let heads = Numbers {
+        first: Pair { a: 0.0, b: 0.0 },
+        second: Pair { a: 0.0, b: 0.0 },
+        last: x,
+    };
+    let y = five::fir(&mut first, &mut second, d, heads, alpha, c);
     print_item(item);
-    print_float(fir::fir(d, x, alpha, c));
+    print_float(y.last);
     print_floats(d);
     end_line();
 }

@@ -45,3 +45,6 @@ third-row = refl
 
 pub last-row : rowAt 4 2 [] [] (1f ∷ 2f ∷ []) ≡ 1f ∷ 2f ∷ []
 last-row = refl
+
+pub fourth-number : numberAt 3 (record { first = record { a = 0f; b = 0f }; second = record { a = 1f; b = ½f }; last = 2f }) ≡ ½f
+fourth-number = refl
