@@ -1,6 +1,6 @@
 -- The loops over the delay line, turn by turn. Assumes nothing.
 use mathlib.Core.Path.{_≡_, refl, sym, ap, _∙_}
-use mathlib.Core.List.{List, [], _∷_, _++_}
+use mathlib.Core.List.{List, [], _∷_, _++_, append-nil}
 use Prim.Native.Nat.{ℕ, _+_, _-_, _≤_, _<_, min}
 use native.Mathlib.Decide.{decLe}
 use native.Mathlib.Omega.{arith}
@@ -8,7 +8,7 @@ use lib.Ieee.{Float, nan}
 use lib.ListN.{length, set, take, drop, length-drop, take-append-drop}
 use lib.Seq.{take-all, getD-drop, length-take-le}
 use Rattle.number.specs.F64.{_⊕_, _⊗_, _‼_, 0f}
-use Rattle.number.specs.Lists.{over}
+use Rattle.number.specs.Lists.{over, row, putRow}
 use Rattle.number.proofs.Lists.{left-next, left-none, front-turn, front-end, over-more, over-known, over-past, over-end}
 use Rattle.delay.specs.Line.{withPulse, shifted}
 
@@ -46,6 +46,18 @@ pulse-end c lpf line k h = go (decLe (length line) k)
     go : Dec (length line ≤ k) → take k line ++ withPulse c (drop k lpf) (drop k line) ≡ line
     go (yes g) = line-done c lpf line k g
     go (no g) = taps-done c lpf line k (omega (arith, g))
+
+-- tap 0 by itself, after the others
+pub pulse-apart : (c : Float) (lpf line rest : List Float) → 0 < length lpf → 0 < length line → rest ≡ withPulse c (row 1 (length lpf) lpf) (row 1 (length line) line)
+    → let next = putRow 1 (length line) rest line in set next 0 (next ‼ 0 ⊕ c ⊗ (lpf ‼ 0)) ≡ withPulse c lpf line
+pulse-apart c [] line rest h g e = absurd (omega arith)
+pulse-apart c (x ∷ lpf) [] rest h g e = absurd (omega arith)
+pulse-apart c (x ∷ lpf) (tap ∷ line) rest h g e =
+    let taps : take (length (x ∷ lpf) - 1) lpf ≡ lpf = take-all (length (x ∷ lpf) - 1) lpf (omega arith) in
+    let others : take (length (tap ∷ line) - 1) line ≡ line = take-all (length (tap ∷ line) - 1) line (omega arith) in
+    let none : drop (length (tap ∷ line) - 1) line ≡ [] = left-none line (length (tap ∷ line) - 1) (omega arith) in
+    let made : rest ≡ withPulse c lpf line = rw (taps, others) at e in
+    ap (λ (l : List Float). tap ⊕ c ⊗ x ∷ l) (ap (λ (l : List Float). rest ++ l) none ∙ append-nil rest ∙ made) ∙ sym (pulse-head c x lpf tap line)
 
 -- ---- the line moves down, tap by tap
 pub shift-turn : (L l : List Float) (k : ℕ) → k + 1 < length L → l ≡ over (take k (drop 1 L)) k L

@@ -21,8 +21,8 @@ fn least(a: usize, b: usize) -> usize
     if a < b { a } else { b }
 }
 
-// c * lpf[k] goes to each tap k. Where lpf is shorter than the line, the taps past its end stay.
-pub fn add_pulse(line: &mut [f64], lpf: &[f64], c: f64)
+// c * lpf[k] goes to each tap k, as far as there are both.
+fn add_each(line: &mut [f64], lpf: &[f64], c: f64)
     ensures { λ _. ⌜ now (line .exit) ≡ withPulse c (now (lpf .entry)) (now (line .entry)) ⌝ }
 {
     let n = least(line.len(), lpf.len());
@@ -30,6 +30,29 @@ pub fn add_pulse(line: &mut [f64], lpf: &[f64], c: f64)
     while k < n {
         line[k] = line[k] + c * lpf[k];
         k += 1;
+    }
+}
+
+// The same with tap 0 by itself.
+fn add_apart(line: &mut [f64], lpf: &[f64], c: f64)
+    requires { ⌜ (0 < length (now line)) × (0 < length (now lpf)) ⌝ }
+    ensures { λ _. ⌜ now (line .exit) ≡ withPulse c (now (lpf .entry)) (now (line .entry)) ⌝ }
+{
+    let n = line.len();
+    let m = lpf.len();
+    add_each(&mut line[1..n], &lpf[1..m], c);
+    line[0] = line[0] + c * lpf[0];
+}
+
+// c * lpf[k] goes to each tap k. Where lpf is shorter than the line, the taps past its end stay. A line that goes along in a window begins at an odd
+// place with every other sample: with tap 0 by itself the others are stored and read again in the same pairs, and no read waits for two stores.
+pub fn add_pulse(line: &mut [f64], lpf: &[f64], c: f64, odd: bool)
+    ensures { λ _. ⌜ now (line .exit) ≡ withPulse c (now (lpf .entry)) (now (line .entry)) ⌝ }
+{
+    if odd && line.len() > 0 && lpf.len() > 0 {
+        add_apart(line, lpf, c);
+    } else {
+        add_each(line, lpf, c);
     }
 }
 

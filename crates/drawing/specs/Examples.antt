@@ -9,6 +9,7 @@ use lib.Ieee.{Float, binary64, ofBits, ofInt, add, sub, mul, neg, eq, ne, lt, le
 use Rattle.number.specs.F64.{0f, ½f, 1f, 2f}
 use Rattle.root.specs.Root.{floorRoot, nearestRoot, unitsOf, rootOfUnits, rootOf}
 use Rattle.history.specs.Steps.{steps}
+use Rattle.history.specs.Through.{passage, through}
 use Rattle.history.specs.Machine.{answer, drew}
 use Rattle.noise.specs.declared.Random.{Random}
 use Rattle.noise.specs.Noise.{foundOf, pairOf, fillingOf, noiseOf, freshRandom}
@@ -23,7 +24,8 @@ use Rattle.configuration.specs.declared.Configuration.{Configuration}
 use Rattle.configuration.specs.Limits.{limitsKept, usual}
 use Rattle.voice.specs.declared.Voice.{Voice}
 use Rattle.voice.specs.Voice.{none, acceptable, idle}
-use Rattle.drawing.specs.Step.{turnOf, step}
+use Rattle.drawing.specs.Step.{turnOf, step, filtered}
+use Rattle.drawing.specs.Finish.{ended}
 use Rattle.drawing.specs.Draw.{voiceOf, placed}
 
 -- numbers as floats
@@ -82,6 +84,17 @@ pub the-last : drew (voiceOf 0) 9 (midway 5 1 (train 4f 1f 0f 2f) freshRandom (3
     ≡ answer 0 (0f ∷ []) (midway 6 0 (train 2f 2f 0f 2f) freshRandom (5f ∷ 0f ∷ []) (0f ∷ 0f ∷ []))
 unfolding drew steps step turnOf sampleBy idle acceptable limitsKept plainStep stepOf pulseOf endOf plus warpAt warps warped pushed dffOf stageOf stagesFrom dfOf rootOf rootOfUnits unitsOf nearestRoot floorRoot ofInt ofBits add sub mul neg ne eq le lt
 the-last = refl
+
+-- what is left to do of that sample once its excitation is made and counted, and of one after which two are left
+pub last-ended : ended (midway 6 0 (train 4f 2f 0f 2f) freshRandom (3f ∷ 0f ∷ []) (0f ∷ 2f ∷ [])) (0f ∷ [])
+    ≡ passage (0f ∷ []) (midway 6 0 (train 2f 2f 0f 2f) freshRandom (5f ∷ 0f ∷ []) (0f ∷ 0f ∷ []))
+unfolding ended filtered through turnOf sampleBy endOf plus warpAt warps warped pushed dffOf stageOf stagesFrom dfOf ofInt ofBits add sub mul neg ne eq le lt
+last-ended = refl
+
+pub first-not-ended : ended (midway 4 2 (train 4f 0f 0f 2f) freshRandom (1f ∷ 0f ∷ []) (0f ∷ 0f ∷ [])) (2f ∷ [])
+    ≡ passage (2f ∷ []) (midway 4 2 (train 4f 0f 0f 2f) freshRandom (2f ∷ 0f ∷ []) (2f ∷ 0f ∷ []))
+unfolding ended filtered through turnOf sampleBy endOf plus warpAt warps warped pushed dffOf stageOf stagesFrom dfOf ofInt ofBits add sub mul neg ne eq le lt
+first-not-ended = refl
 
 -- unvoiced, one value of the noise left, and no try for more: one sample, then dry, with the voice as after it; and dry at once, with the voice as it was
 abbrev left-over : ℕ → Random

@@ -1,3 +1,4 @@
 pub mod Step
+pub mod Finish
 pub mod Draw
 pub mod Examples

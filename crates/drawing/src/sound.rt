@@ -1,8 +1,8 @@
-// The samples of a part of a frame.
+// The samples of a part of a frame. A voice is large, so only two are built on the way: one with the excitation and the counts, and one with the rest.
 ghost use mathlib.Core.Path.{_≡_};
 ghost use mathlib.Core.Bool.{true};
 ghost use Prim.Native.Nat.{_+_, _≤_, _<_};
-ghost use lib.ListN.{length};
+ghost use lib.ListN.{length, take};
 ghost use Rattle.number.specs.Lists.{over};
 ghost use Rattle.history.specs.Steps.{steps};
 ghost use Rattle.history.specs.Through.{passage};
@@ -10,9 +10,13 @@ ghost use Rattle.noise.specs.Draw.{tries};
 ghost use Rattle.excitation.specs.Excitation.{stretchOf};
 ghost use Rattle.configuration.specs.Limits.{limitsKept};
 ghost use Rattle.voice.specs.Voice.{mostMeter};
-ghost use Rattle.drawing.specs.Step.{tapsOf, excitationOf, withExcitation, filtered, counted, closed, closedAtEnd, step};
+ghost use Rattle.drawing.specs.Step.{tapsOf, excitationOf, withExcitation, counted, step};
+ghost use Rattle.drawing.specs.Finish.{pulseAtEnd, entriesAtEnd, withRemains, ended};
 use filter::nonzero;
 use filter::zero;
+use mglsa::MelGeneralizedLogSpectrumApproximation;
+use mlsa::MelLogSpectrumApproximation;
+use pulse::Pulse;
 use voice::Voice;
 
 // How many samples were made, and the voice after the last of them.
@@ -21,10 +25,17 @@ pub struct Sounded {
     pub voice: Voice,
 }
 
-// The excitation of as many samples as can be had.
+// What the filter and the frame's end leave besides the coefficients: the pulse train, and the taps of both filters.
+pub struct Remains {
+    pub pulse: Pulse,
+    pub zero: MelLogSpectrumApproximation,
+    pub nonzero: MelGeneralizedLogSpectrumApproximation,
+}
+
+// The excitation of as many samples as can be had, which are counted.
 fn excite(voice: Voice, samples: &mut [f64]) -> Sounded
-    requires { ⌜ limitsKept (voice .configuration) ≡ true ⌝ }
-    ensures { λ r. ⌜ r .voice ≡ withExcitation (stretchOf tries (tapsOf voice) (length (now (samples .entry))) (excitationOf voice) .state) voice ⌝ }
+    requires { ⌜ (limitsKept (voice .configuration) ≡ true) × (length (now samples) ≤ voice .left) × (voice .meter + voice .left ≤ mostMeter) ⌝ }
+    ensures { λ r. ⌜ r .voice ≡ counted (r .made) (withExcitation (stretchOf tries (tapsOf voice) (length (now (samples .entry))) (excitationOf voice) .state) voice) ⌝ }
     ensures { λ r. ⌜ r .made ≡ length (stretchOf tries (tapsOf voice) (length (now (samples .entry))) (excitationOf voice) .made) ⌝ }
     ensures { λ r. ⌜ now (samples .exit) ≡ over (stretchOf tries (tapsOf voice) (length (now (samples .entry))) (excitationOf voice) .made) (r .made) (now (samples .entry)) ⌝ }
 {
@@ -37,106 +48,114 @@ fn excite(voice: Voice, samples: &mut [f64]) -> Sounded
     let filled = excitation::stretch(pulse, random, &mut line[0..nlpf], &lpf[0..nlpf], samples);
     let last_pulse = filled.pulse;
     let last_random = filled.random;
-    let mut after = voice;
-    after.pulse = last_pulse;
-    after.random = last_random;
-    after.line = line;
-    Sounded {
-        made: filled.made,
-        voice: after,
-    }
-}
-
-// The filter of stage 0 over the samples.
-fn filter_zero(voice: Voice, samples: &mut [f64]) -> Voice
-    requires { ⌜ (limitsKept (voice .configuration) ≡ true) × (voice .configuration .stage ≡ 0) ⌝ }
-    ensures { λ r. ⌜ passage (now (samples .exit)) r ≡ filtered voice (now (samples .entry)) ⌝ }
-{
-    let configuration = voice.configuration;
-    let nmcp = configuration.nmcp;
-    let mut c = voice.coefficients;
-    let increments = voice.increments;
-    let before = voice.zero;
-    let taps = zero::stretch(
-        before,
-        samples,
-        &mut c[0..nmcp],
-        &increments[0..nmcp],
-        configuration.alpha,
-        configuration.volume,
-    );
-    let mut after = voice;
-    after.coefficients = c;
-    after.zero = taps;
-    after
-}
-
-// The filter of the other stages over the samples.
-fn filter_nonzero(voice: Voice, samples: &mut [f64]) -> Voice
-    requires { ⌜ (limitsKept (voice .configuration) ≡ true) × (0 < voice .configuration .stage) ⌝ }
-    ensures { λ r. ⌜ passage (now (samples .exit)) r ≡ filtered voice (now (samples .entry)) ⌝ }
-{
-    let configuration = voice.configuration;
-    let nmcp = configuration.nmcp;
-    let mut c = voice.coefficients;
-    let increments = voice.increments;
-    let before = voice.nonzero;
-    let taps = nonzero::stretch(
-        before,
-        configuration.stage as usize,
-        samples,
-        &mut c[0..nmcp],
-        &increments[0..nmcp],
-        configuration.alpha,
-        configuration.volume,
-    );
-    let mut after = voice;
-    after.coefficients = c;
-    after.nonzero = taps;
-    after
-}
-
-// The frame's end: the pulse train's, and the coefficients at their targets.
-fn close(voice: Voice) -> Voice
-    requires { ⌜ limitsKept (voice .configuration) ≡ true ⌝ }
-    ensures { λ r. ⌜ r ≡ closed voice ⌝ }
-{
-    let configuration = voice.configuration;
-    let nmcp = configuration.nmcp;
-    let targets = voice.targets;
-    let mut c = voice.coefficients;
-    vectors::copy(&targets[0..nmcp], &mut c[0..nmcp]);
-    let pulse = voice.pulse;
-    let mut after = voice;
-    after.pulse = pulse.end();
-    after.coefficients = c;
-    after
-}
-
-// So many samples counted, and the frame closed where none is left.
-fn count(voice: Voice, made: usize) -> Voice
-    requires { ⌜ (limitsKept (voice .configuration) ≡ true) × (made ≤ voice .left) × (voice .meter + voice .left ≤ mostMeter) ⌝ }
-    ensures { λ r. ⌜ r ≡ closedAtEnd (counted made voice) ⌝ }
-{
+    let made = filled.made;
     let mut after = voice;
     after.meter = voice.meter + made as u64;
     after.left = voice.left - made;
-    if after.left == 0 {
-        return close(after);
-    }
-    after
+    after.pulse = last_pulse;
+    after.random = last_random;
+    after.line = line;
+    Sounded { made, voice: after }
 }
 
-// The filter of the voice's stage over the samples.
-fn filter_stage(voice: Voice, samples: &mut [f64]) -> Voice
-    requires { ⌜ limitsKept (voice .configuration) ≡ true ⌝ }
-    ensures { λ r. ⌜ passage (now (samples .exit)) r ≡ filtered voice (now (samples .entry)) ⌝ }
+// The frame's end, where no sample is left: the pulse train's, and the coefficients at their targets.
+fn close(voice: Voice, c: &mut [f64]) -> Pulse
+    requires { ⌜ (limitsKept (voice .configuration) ≡ true) × (length (now c) ≡ voice .configuration .nmcp) ⌝ }
+    ensures { λ r. ⌜ (r ≡ pulseAtEnd voice) × (now (c .exit) ≡ entriesAtEnd voice (now (c .entry))) ⌝ }
+{
+    let pulse = voice.pulse;
+    if voice.left == 0 {
+        let n = c.len();
+        let targets = voice.targets;
+        vectors::copy(&targets[0..n], c);
+        return pulse.end();
+    }
+    pulse
+}
+
+// The filter of stage 0 over the samples, and the frame's end.
+fn filter_zero(voice: Voice, c: &mut [f64], samples: &mut [f64]) -> Remains
+    requires { ⌜ (limitsKept (voice .configuration) ≡ true) × (now c ≡ take (voice .configuration .nmcp) (voice .coefficients)) × (voice .configuration .stage ≡ 0) ⌝ }
+    ensures { λ r. ⌜ passage (now (samples .exit)) (withRemains (now (c .exit)) r voice) ≡ ended voice (now (samples .entry)) ⌝ }
+{
+    let configuration = voice.configuration;
+    let n = c.len();
+    let increments = voice.increments;
+    let before = voice.zero;
+    let nonzero = voice.nonzero;
+    let zero = zero::stretch(
+        before,
+        samples,
+        c,
+        &increments[0..n],
+        configuration.alpha,
+        configuration.volume,
+    );
+    let pulse = close(voice, c);
+    Remains {
+        pulse,
+        zero,
+        nonzero,
+    }
+}
+
+// The filter of the other stages over the samples, and the frame's end.
+fn filter_nonzero(voice: Voice, c: &mut [f64], samples: &mut [f64]) -> Remains
+    requires { ⌜ (limitsKept (voice .configuration) ≡ true) × (now c ≡ take (voice .configuration .nmcp) (voice .coefficients)) × (0 < voice .configuration .stage) ⌝ }
+    ensures { λ r. ⌜ passage (now (samples .exit)) (withRemains (now (c .exit)) r voice) ≡ ended voice (now (samples .entry)) ⌝ }
+{
+    let configuration = voice.configuration;
+    let n = c.len();
+    let increments = voice.increments;
+    let before = voice.nonzero;
+    let zero = voice.zero;
+    let nonzero = nonzero::stretch(
+        before,
+        configuration.stage as usize,
+        samples,
+        c,
+        &increments[0..n],
+        configuration.alpha,
+        configuration.volume,
+    );
+    let pulse = close(voice, c);
+    Remains {
+        pulse,
+        zero,
+        nonzero,
+    }
+}
+
+// The filter of the voice's stage over the samples, and the frame's end.
+fn filter_stage(voice: Voice, c: &mut [f64], samples: &mut [f64]) -> Remains
+    requires { ⌜ (limitsKept (voice .configuration) ≡ true) × (now c ≡ take (voice .configuration .nmcp) (voice .coefficients)) ⌝ }
+    ensures { λ r. ⌜ passage (now (samples .exit)) (withRemains (now (c .exit)) r voice) ≡ ended voice (now (samples .entry)) ⌝ }
 {
     let configuration = voice.configuration;
     if configuration.stage == 0 {
-        return filter_zero(voice, samples);
+        return filter_zero(voice, c, samples);
     }
-    filter_nonzero(voice, samples)
+    filter_nonzero(voice, c, samples)
+}
+
+// The voice after its filter and the frame's end.
+fn finish(voice: Voice, samples: &mut [f64]) -> Voice
+    requires { ⌜ limitsKept (voice .configuration) ≡ true ⌝ }
+    ensures { λ r. ⌜ passage (now (samples .exit)) r ≡ ended voice (now (samples .entry)) ⌝ }
+{
+    let configuration = voice.configuration;
+    let nmcp = configuration.nmcp;
+    let mut c = voice.coefficients;
+    let remains = filter_stage(voice, &mut c[0..nmcp], samples);
+    let pulse = remains.pulse;
+    let zero = remains.zero;
+    let nonzero = remains.nonzero;
+    let mut after = voice;
+    after.pulse = pulse;
+    after.coefficients = c;
+    after.zero = zero;
+    after.nonzero = nonzero;
+    after
 }
 
 // As many samples as the slice is long, or as can be had, of those left.
@@ -149,9 +168,8 @@ pub fn sound(voice: Voice, samples: &mut [f64]) -> Sounded
     let excited = excite(voice, samples);
     let made = excited.made;
     let fed = excited.voice;
-    let filtered = filter_stage(fed, &mut samples[0..made]);
     Sounded {
         made,
-        voice: count(filtered, made),
+        voice: finish(fed, &mut samples[0..made]),
     }
 }

@@ -35,7 +35,7 @@ fn get_plain(pulse: Pulse, next: u64, used: usize, queue: &mut [f64; 64]) -> Sam
 }
 
 // What a value of the noise makes of the line, and the sample that is then at tap 0.
-fn mix(pulse: Pulse, noise: f64, line: &mut [f64], lpf: &[f64]) -> Pulsed
+fn mix(pulse: Pulse, noise: f64, line: &mut [f64], lpf: &[f64], odd: bool) -> Pulsed
     requires { ⌜ 0 < length (now line) ⌝ }
     ensures { λ r. ⌜ r ≡ record { sample = mixedLine pulse noise (now (lpf .entry)) (now (line .entry)) ‼ 0; pulse = pulseAfter pulse } ⌝ }
     ensures { λ _. ⌜ now (line .exit) ≡ mixedLine pulse noise (now (lpf .entry)) (now (line .entry)) ⌝ }
@@ -44,7 +44,7 @@ fn mix(pulse: Pulse, noise: f64, line: &mut [f64], lpf: &[f64]) -> Pulsed
     if pulse.pitch != 0.0 {
         let p = pulse.next();
         let after = p.pulse;
-        delay::add_pulse(line, lpf, p.sample - noise);
+        delay::add_pulse(line, lpf, p.sample - noise, odd);
         return Pulsed {
             sample: line[0],
             pulse: after,
@@ -56,7 +56,7 @@ fn mix(pulse: Pulse, noise: f64, line: &mut [f64], lpf: &[f64]) -> Pulsed
     }
 }
 
-// A sample with nlpf 1 or more. Its line has still to move on by one tap.
+// A sample with nlpf 1 or more. Its line, which may begin at an odd place of a window, has still to move on by one tap.
 pub(crate) fn get_mixed(
     pulse: Pulse,
     next: u64,
@@ -64,6 +64,7 @@ pub(crate) fn get_mixed(
     queue: &mut [f64; 64],
     line: &mut [f64],
     lpf: &[f64],
+    odd: bool,
 ) -> Sample
     requires { ⌜ (length (now queue) ≡ 64) × (0 < length (now line)) ⌝ }
     ensures { λ r. ⌜ sampledOf r (now (queue .exit)) (shifted (now (line .exit)))
@@ -74,7 +75,7 @@ pub(crate) fn get_mixed(
     let taken = noise::nrandom(next, used, queue);
     match taken {
         Taken::Value(noise, next, used) => {
-            let p = mix(pulse, noise, line, lpf);
+            let p = mix(pulse, noise, line, lpf, odd);
             let after = p.pulse;
             Sample::Made(p.sample, after, next, used)
         }
@@ -97,7 +98,7 @@ fn get_shifted(
     ensures { λ r. ⌜ (r ≡ Dry → (now (queue .exit) ≡ now (queue .entry)) × (now (line .exit) ≡ now (line .entry))) ⌝ }
     ensures { λ _. ⌜ length (now (queue .exit)) ≡ 64 ⌝ }
 {
-    let sample = get_mixed(pulse, next, used, queue, line, lpf);
+    let sample = get_mixed(pulse, next, used, queue, line, lpf, false);
     match sample {
         Sample::Made(x, after, next, used) => {
             delay::shift(line);

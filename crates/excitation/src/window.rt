@@ -48,6 +48,7 @@ fn slide(
             queue,
             &mut window[i..end],
             lpf,
+            i % 2 == 1,
         );
         match sample {
             Sample::Made(x, p, m, u) => {

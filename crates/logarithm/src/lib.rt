@@ -46,12 +46,10 @@ fn of_pattern(b: u64) -> f64
     let m = f64::from_bits(b + 0x3ff0_0000_0000_0000 - e * 0x10_0000_0000_0000);
     // k is exact, the constant has one factor: a has 2, and is +0 where k is 0
     let a = ((e as f64) - 1023.0) * 0.6931471805599453;
-    if m == 1.0 {
-        return a;
-    }
     // where k is 0: 8 + 1. Else ln m is at most 5/8 of a: 6 where the signs are alike, and 20 where
-    // they are not.
-    a + near_one(m)
+    // they are not. The sum is made for every m, so that of many patterns the compiler makes vectors.
+    let whole = a + near_one(m);
+    if m == 1.0 { a } else { whole }
 }
 
 // The logarithm of an x that is known to be positive, normal and finite.

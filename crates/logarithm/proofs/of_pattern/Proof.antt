@@ -28,16 +28,16 @@ int-to-float-a : tie.Need-int-to-float-a
 unfolding field
 int-to-float-a c = field-float (c .before .args .b) (omega arith) (omega arith)
 
+near-one-requires : tie.Need-near-one-requires
+near-one-requires c κs = search needs
+
 returns : tie.Need-returns
 unfolding ofPattern part field turns
 returns c = rw (c .if1 .taken) refl
 
-near-one-requires : tie.Need-near-one-requires
-near-one-requires c κs = search needs
-
 returns-2 : tie.Need-returns-2
 unfolding ofPattern part field turns
-returns-2 c = rw (c .near-one .ensures, c .before .if1 .left) refl
+returns-2 c = rw (c .before .near-one .ensures, c .if1 .left) refl
 
 pub of-pattern-spec : {M : Type 1} → statement M
-of-pattern-spec = tie.close (tie.spec add-e add-m mul-m sub-m float-from-bits-m int-to-float-a returns near-one-requires returns-2)
+of-pattern-spec = tie.close (tie.spec add-e add-m mul-m sub-m float-from-bits-m int-to-float-a near-one-requires returns returns-2)

@@ -13,8 +13,8 @@ next-requires c κs = search needs
 add-pulse-requires : tie.Need-add-pulse-requires
 add-pulse-requires c κs = search needs
 
-slice-read-t14 : tie.Need-slice-read-t14
-slice-read-t14 c = search needs
+slice-read-t15 : tie.Need-slice-read-t15
+slice-read-t15 c = search needs
 
 same-length : tie.Need-same-length
 same-length c = search needs
@@ -27,8 +27,8 @@ returns c =
     let a = c .before .before .before .before .before .before .before .before .before .before .before .before .before .before .before .before .args in
     mix-voiced (a .pulse) (a .noise) (a .lpf .now) (a .line .now) (noisy .last .0) (both .last .0) (pulse .result) (c .before .before .before .before .before .before .before .before .if1 .taken) (noisy .ensures) (pulse .ensures) (both .ensures)
 
-slice-read-t17 : tie.Need-slice-read-t17
-slice-read-t17 c = search needs
+slice-read-t18 : tie.Need-slice-read-t18
+slice-read-t18 c = search needs
 
 same-length-2 : tie.Need-same-length-2
 same-length-2 c = search needs
@@ -46,9 +46,9 @@ mix-spec =
     add-noise-requires
     next-requires
     add-pulse-requires
-    slice-read-t14
+    slice-read-t15
     same-length
     returns
-    slice-read-t17
+    slice-read-t18
     same-length-2
     returns-2)

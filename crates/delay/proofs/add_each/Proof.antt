@@ -1,4 +1,4 @@
--- `add_pulse` meets its contract: what the rest of the turns makes of the line is what all of them make. Assumes nothing.
+-- `add_each` meets its contract: what the rest of the turns makes of the line is what all of them make. Assumes nothing.
 use mathlib.Core.Path.{_≡_, refl, sym, _∙_}
 use mathlib.Core.List.{_++_}
 use Prim.Native.Nat.{_-_, _≤_, min}
@@ -7,8 +7,8 @@ use lib.ListN.{length, take, drop, length-set}
 use Rattle.delay.specs.Line.{withPulse}
 use Rattle.delay.proofs.LineLaws.{pulse-turn, pulse-end}
 use borrow.Author.Needs.{needs}
-use Rattle.delay.proofs.add_pulse.Statement.{statement}
-use Rattle.delay.proofs.add_pulse.Tie as tie
+use Rattle.delay.proofs.add_each.Statement.{statement}
+use Rattle.delay.proofs.add_each.Tie as tie
 
 abbrev Inv-loop : tie.InvT-loop
 Inv-loop line₀ lpf c n k₀ line k = (n ≡ min (length line₀) (length lpf)) × (k ≤ n) × (length line ≡ length line₀) × (take k line ++ withPulse c (drop k lpf) (drop k line) ≡ withPulse c lpf line₀)
@@ -63,8 +63,8 @@ returns c =
     let a = c .before .before .before .before .before .args in
     sym (pulse-end (a .c) (a .lpf .now) (top .loop .line) (top .loop .k) (omega arith)) ∙ top .loop .inv .3
 
-pub add-pulse-spec : {M : Type 1} → statement M
-add-pulse-spec =
+pub add-each-spec : {M : Type 1} → statement M
+add-each-spec =
     tie.close
     (tie.spec
     Inv-loop
