@@ -1,4 +1,4 @@
-// A filling in three passes over 32 pairs, so that the logarithms overlap each other, and so do the roots.
+// A filling in passes over 32 pairs, so that the compiler makes vectors of the logarithms and of the estimates of the roots, and the roots overlap each other.
 ghost use mathlib.Core.Path.{_≡_};
 ghost use Prim.Native.Nat.{ℕ, _<_};
 ghost use lib.Dec.{T};
@@ -55,14 +55,31 @@ pub(crate) fn weigh(sums: &[f64], weights: &mut [f64])
     }
 }
 
+// An estimate of the root of each weight. Nothing is claimed of it.
+pub(crate) fn estimate(weights: &[f64], near: &mut [f64])
+    requires { ⌜ length (now near) ≡ length (now weights) ⌝ }
+{
+    let mut k = 0;
+    while k < weights.len() {
+        near[k] = root::estimate(weights[k]);
+        k += 1;
+    }
+}
+
 // The values: the numbers of each pair times the root of its weight.
-pub(crate) fn multiply(firsts: &[f64], seconds: &[f64], weights: &[f64], queue: &mut [f64; 64])
-    requires { ⌜ (length (now firsts) ≡ 32) × (length (now seconds) ≡ 32) × (length (now weights) ≡ 32) × (length (now queue) ≡ 64) ⌝ }
+pub(crate) fn multiply(
+    firsts: &[f64],
+    seconds: &[f64],
+    weights: &[f64],
+    near: &[f64],
+    queue: &mut [f64; 64],
+)
+    requires { ⌜ (length (now firsts) ≡ 32) × (length (now seconds) ≡ 32) × (length (now weights) ≡ 32) × (length (now queue) ≡ 64) × (length (now near) ≡ 32) ⌝ }
     ensures { λ _. ⌜ now (queue .exit) ≡ pairsOf (λ k. rootOf (now (weights .entry) ‼ k)) 32 (now (firsts .entry)) (now (seconds .entry)) ⌝ }
 {
     let mut k: usize = 0;
     while k < 32 {
-        let m = root::sqrt(weights[k]);
+        let m = root::sqrt_near(weights[k], near[k]);
         queue[2 * k] = firsts[k] * m;
         queue[2 * k + 1] = seconds[k] * m;
         k += 1;

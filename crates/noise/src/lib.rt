@@ -10,6 +10,7 @@ mod draw;
 mod gather;
 mod pair;
 
+use crate::gather::estimate;
 use crate::gather::find_pairs;
 use crate::gather::multiply;
 use crate::gather::weigh;
@@ -62,7 +63,9 @@ fn fill_queue(next: u64, queue: &mut [f64; 64]) -> Filling
         Filling::Full(next) => {
             let mut weights = [0.0; 32];
             weigh(&sums, &mut weights);
-            multiply(&firsts, &seconds, &weights, queue);
+            let mut near = [0.0; 32];
+            estimate(&weights, &mut near);
+            multiply(&firsts, &seconds, &weights, &near, queue);
             Filling::Full(next)
         }
         Filling::Dry => Filling::Dry,

@@ -4,28 +4,11 @@ ghost use Prim.Native.Nat.{ℕ, _+_, _*_, _^_, _<_};
 ghost use Rattle.root.specs.Parts.{NearestTo, RestOf};
 use crate::digits::nearest_root;
 
-// Near 1 / sqrt(f), within 0.004 of it: a parabola for f from 1 to 2, another from there to 4.
-fn inverse_root(f: f64, second: bool) -> f64 {
-    let a = if second { 1.116974 } else { 1.579639 };
-    let b = if second { 0.2582758 } else { 0.7305143 };
-    let c = if second { 0.02610772 } else { 0.1476876 };
-    a - f * (b - f * c)
-}
-
-// A number about two below the root of m * 2^52. Nothing is claimed of it, since it is tested. Two of
-// Newton's steps for 1 / sqrt(f), f = m / 2^52, and one for the root itself.
-pub(crate) fn guess(m: u64) -> u64
-    requires { ⌜ m < 2 ^ 54 ⌝ }
+// A number about two below the root of m * 2^52, by the digits of an estimate.
+pub(crate) fn guess(near: f64) -> u64
     ensures { λ g. ⌜ g < 2 ^ 53 ⌝ }
 {
-    let f = ((m / 2) as f64) * 4.44089209850062616169452667236328125e-16;
-    let h = 0.5 * f;
-    let y0 = inverse_root(f, m >= 0x20_0000_0000_0000);
-    let y1 = y0 * (1.5 - h * (y0 * y0));
-    let y2 = y1 * (1.5 - h * (y1 * y1));
-    let s0 = f * y2;
-    let s1 = s0 + (f - s0 * s0) * (0.5 * y2);
-    (number::bits::bits_of(s1) % 0x20_0000_0000_0000 + 0x1f_ffff_ffff_fffe) % 0x20_0000_0000_0000
+    number::bits::bits_of(near) % 0x10_0000_0000_0000 + 0xf_ffff_ffff_fffe
 }
 
 // What a square leaves of a number, or that it lies too far off.

@@ -1,4 +1,4 @@
--- `fill_queue` meets its contract: its three passes, put together. Assumes nothing.
+-- `fill_queue` meets its contract: its passes, put together. Assumes nothing.
 use mathlib.Core.Path.{_≡_, refl, sym, ap, _∙_, subst}
 use Prim.Native.Nat.{ℕ}
 use native.Mathlib.Omega.{arith}
@@ -41,6 +41,15 @@ weigh-requires c κs =
     let long : length (find .last .1 .1 .1 .0) ≡ 32 = find .kept .1 .1 .1 .0 in
     (sym long, λ k l. g .inside k (omega (arith, long)))
 
+slice-aggregate-estimate : tie.Need-slice-aggregate-estimate
+slice-aggregate-estimate c = search needs
+
+slice-aggregate-estimate-2 : tie.Need-slice-aggregate-estimate-2
+slice-aggregate-estimate-2 c = search needs
+
+estimate-requires : tie.Need-estimate-requires
+estimate-requires c κs = search needs
+
 slice-aggregate-multiply : tie.Need-slice-aggregate-multiply
 slice-aggregate-multiply c = search needs
 
@@ -50,6 +59,9 @@ slice-aggregate-multiply-2 c = search needs
 slice-aggregate-multiply-3 : tie.Need-slice-aggregate-multiply-3
 slice-aggregate-multiply-3 c = search needs
 
+slice-aggregate-multiply-4 : tie.Need-slice-aggregate-multiply-4
+slice-aggregate-multiply-4 c = search needs
+
 multiply-requires : tie.Need-multiply-requires
 multiply-requires c κs = search needs
 
@@ -58,16 +70,16 @@ enum-told c = search needs
 
 returns : tie.Need-returns
 returns c =
-    let find = c .before .before .before .before .before .before .before .before .before .before .before .before .before .before .before .find-pairs in
-    let weigh = c .before .before .before .before .before .before .weigh in
+    let find = c .before .before .before .before .before .before .before .before .before .before .before .before .before .before .before .before .before .before .before .before .find-pairs in
+    let weigh = c .before .before .before .before .before .before .before .before .before .before .before .weigh in
     let multiply = c .multiply in
     let a = find .last .1 .0 in
     let b = find .last .1 .1 .0 in
     let s = find .last .1 .1 .1 .0 in
     let w = weigh .last .1 .0 in
-    let g = subst (λ (r : Filling). Gathers tries (c .before .before .before .before .before .before .before .before .before .before .before .before .before .before .before .before .before .before .before .args .next) r a b s) (c .before .before .before .before .before .before .before .before .before .before .found .given .1) (find .ensures) in
+    let g = subst (λ (r : Filling). Gathers tries (c .before .before .before .before .before .before .before .before .before .before .before .before .before .before .before .before .before .before .before .before .before .before .before .before .args .next) r a b s) (c .before .before .before .before .before .before .before .before .before .before .before .before .before .before .before .found .given .1) (find .ensures) in
     let long : length s ≡ 32 = find .kept .1 .1 .1 .0 in (
-      gathered-all tries (c .before .before .before .before .before .before .before .before .before .before .before .before .before .before .before .before .before .before .before .args .next) (c .before .before .before .before .before .before .before .before .before .before .found .given .0 .0) a b s w (multiply .last .1 .1 .1 .0) g (λ k l. weigh .ensures k (omega (arith, long))) (multiply .ensures),
+      gathered-all tries (c .before .before .before .before .before .before .before .before .before .before .before .before .before .before .before .before .before .before .before .before .before .before .before .before .args .next) (c .before .before .before .before .before .before .before .before .before .before .before .before .before .before .before .found .given .0 .0) a b s w (multiply .last .1 .1 .1 .1 .0) g (λ k l. weigh .ensures k (omega (arith, long))) (multiply .ensures),
       (λ e. let z : _≡_ {A = ℕ} 0 1 = cc in absurd (omega arith), ap length (multiply .ensures) ∙ pairs-length (λ k. rootOf (w ‼ k)) 32 a b),
     )
 
@@ -89,9 +101,13 @@ fill-queue-spec =
     slice-aggregate-weigh
     slice-aggregate-weigh-2
     weigh-requires
+    slice-aggregate-estimate
+    slice-aggregate-estimate-2
+    estimate-requires
     slice-aggregate-multiply
     slice-aggregate-multiply-2
     slice-aggregate-multiply-3
+    slice-aggregate-multiply-4
     multiply-requires
     enum-told
     returns

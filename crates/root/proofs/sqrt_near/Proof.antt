@@ -1,10 +1,10 @@
--- `sqrt` meets its contract, branch by branch. Assumes nothing.
+-- `sqrt_near` meets its contract, branch by branch. Assumes nothing.
 use mathlib.Core.Path.{sym, _∙_, subst}
 use lib.Dec.{T}
 use lib.Ieee.{binary64, fits, ofBits, div}
 use Rattle.root.proofs.Cases.{Above, above, number, bits-least, bits-most, root-above, at-infinity, at-zero, elsewhere}
-use Rattle.root.proofs.sqrt.Statement.{statement}
-use Rattle.root.proofs.sqrt.Tie as tie
+use Rattle.root.proofs.sqrt_near.Statement.{statement}
+use Rattle.root.proofs.sqrt_near.Tie as tie
 
 -- binary64 holds the argument
 held : (c : tie.Start) → T (fits binary64 (c .args .x))
@@ -38,5 +38,5 @@ returns-4 : tie.Need-returns-4
 unfolding ofBits div
 returns-4 c = elsewhere (c .before .before .args .x) (c .before .if1 .left) (c .if3 .left)
 
-pub sqrt-spec : {M : Type 1} → statement M
-sqrt-spec = tie.close (tie.spec float-to-bits-rounded rounded-requires returns returns-2 returns-3 returns-4)
+pub sqrt-near-spec : {M : Type 1} → statement M
+sqrt-near-spec = tie.close (tie.spec float-to-bits-rounded rounded-requires returns returns-2 returns-3 returns-4)
