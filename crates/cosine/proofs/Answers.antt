@@ -60,18 +60,25 @@ module _ (p d n a q : ℕ) (v : Fraction) (is : p * 2 ^ 51 ≡ n * d) (lo : 256 
       size-most (0 * E + v .over .minus * d) (p * E + v .over .plus * d) (2 ^ 44) (d * E) (le-of-mul-le-mul-left {k = 32768} (omega arith) (lit< tt)) (le-of-mul-le-mul-left {k = 32768} (omega arith) (lit< tt))
 
 -- ---- 1 less q units, for a q below 5
+-- the code's square is below 10, since the angle is at most 3.15
+pub square-most : (r : ℕ) → 20 * r ≤ 63 * one → 400 * (r * r / one) ≤ 3969 * one
+square-most r h = go one r (r * r / one) (lit≤ tt) h (div-mul-le-self (r * r) one)
+  where
+    go : (U r a : ℕ) → 1 ≤ U → 20 * r ≤ 63 * U → a * U ≤ r * r → 400 * a ≤ 3969 * U
+    go U r a U⁺ h k = le-of-mul-le-mul-left {k = U} (omega (arith, mul-le-mul h h)) U⁺
+
+-- and half of its product with the inner part is below 5
+pub half-most : (a p : ℕ) → 400 * a ≤ 3969 * one → p ≤ one → 800 * (a * p / (one * 2)) ≤ 3969 * one
+half-most a p h k = go one a p (a * p / (one * 2)) (lit≤ tt) h k (div-mul-le-self (a * p) (one * 2))
+  where
+    go : (U a p q : ℕ) → 1 ≤ U → 400 * a ≤ 3969 * U → p ≤ U → q * (U * 2) ≤ a * p → 800 * q ≤ 3969 * U
+    go U a p q U⁺ h k l = le-of-mul-le-mul-left {k = U} (omega (arith, mul-le-mul-right U h, mul-le-mul-left a k)) U⁺
+
 pub fall-small : (r : ℕ) → 20 * r ≤ 63 * one → 800 * fallOf r ≤ 3969 * one
 fall-small r h =
     let a = r * r / one in
-    let s : 400 * a ≤ 3969 * one = square one r a (lit≤ tt) h (div-mul-le-self (r * r) one) in
-    subst (λ (z : ℕ). 800 * z ≤ 3969 * one) (sym (fall-is r))
-    (half one a (alternating a 1 steps) (a * alternating a 1 steps / (one * 2)) (lit≤ tt) s (code-cap a 1 steps (omega arith) (lit≤ tt)) (div-mul-le-self (a * alternating a 1 steps) (one * 2)))
-  where
-    square : (U r a : ℕ) → 1 ≤ U → 20 * r ≤ 63 * U → a * U ≤ r * r → 400 * a ≤ 3969 * U
-    square U r a U⁺ h k = le-of-mul-le-mul-left {k = U} (omega (arith, mul-le-mul h h)) U⁺
-
-    half : (U a p q : ℕ) → 1 ≤ U → 400 * a ≤ 3969 * U → p ≤ U → q * (U * 2) ≤ a * p → 800 * q ≤ 3969 * U
-    half U a p q U⁺ h k l = le-of-mul-le-mul-left {k = U} (omega (arith, mul-le-mul-right U h, mul-le-mul-left a k)) U⁺
+    let s = square-most r h in
+    subst (λ (z : ℕ). 800 * z ≤ 3969 * one) (sym (fall-is r)) (half-most a (alternating a 1 steps) s (code-cap a 1 steps (omega arith) (lit≤ tt)))
 
 pub near-one-less : (q : ℕ) (v : Fraction) → 800 * q ≤ 3969 * one → Fall 174 q v → T (finite (oneLess q)) × Within 44 (valueOf (oneLess q)) v
 unfolding oneLess neg

@@ -2,9 +2,9 @@
 use mathlib.Core.Path.{_≡_, refl, sym, ap, _∙_, subst}
 use mathlib.Core.Bool.{false}
 use Prim.Native.Nat.{ℕ, zero, suc, _+_, _-_, _*_, _/_, _%_, _^_, _≤_, _<_}
-use native.Mathlib.Nat.{mod-eq-of-lt, mul-div-mul-left, div-div-eq-div-mul, div-lt-iff-lt-mul, mul-le-mul, mul-le-mul-left, mul-one, one-mul, div-mul-le-self}
+use native.Mathlib.Nat.{mod-eq-of-lt, mul-div-mul-left, div-div-eq-div-mul, div-lt-iff-lt-mul, mul-le-mul, mul-le-mul-left, mul-one, one-mul}
 use native.Mathlib.Omega.{arith}
-use lib.Dec.{lit≤, lit<}
+use lib.Dec.{lit<}
 use borrow.Author.Tests.{lt-ltb, le-ltb}
 use lib.IntN.{pos, negsuc}
 use lib.Pow.{pow-pos}
@@ -13,9 +13,8 @@ use lib.Ieee.Back.{round-whole}
 use lib.Ieee.Exact.{HasValue}
 use lib.Ieee.Positive.{mul-at, positive-of-value}
 use Rattle.cosine.specs.Cos.{one, turn, alternating, fallOf, floatOf, oneLess, steps}
-use Rattle.cosine.proofs.Steps.{square-small}
 use Rattle.cosine.proofs.Value.{fall-is}
-use Rattle.cosine.proofs.Answers.{fall-small}
+use Rattle.cosine.proofs.Answers.{square-most, half-most}
 
 -- ---- products
 -- 2 ^ 64 is 32 times 1: the factors are moved up by five bits in all
@@ -53,19 +52,22 @@ over-2^51 (suc m) h =
     ∙ ap (λ (z : ℕ). round binary64 false z (1 * 2 ^ 51)) (mul-one (suc m)) ∙ ap (λ (z : ℕ). round binary64 false (suc m) z) (one-mul (2 ^ 51))
 
 -- ---- the whole sum
-pub small-square : (r a : ℕ) → 2 * r ≤ turn → a ≡ r * r / one → a ≤ 10 * one
-small-square r a h e = subst (λ (z : ℕ). z ≤ 10 * one) (sym e) (square-small one r (r * r / one) (lit≤ tt) (omega arith) (div-mul-le-self (r * r) one))
+pub small-square : (r a : ℕ) → 2 * r ≤ turn → a ≡ r * r / one → 400 * a ≤ 3969 * one
+small-square r a h e = subst (λ (z : ℕ). 400 * z ≤ 3969 * one) (sym e) (square-most r (omega arith))
 
-pub fall-code : (r a p t : ℕ) → a ≡ r * r / one → p ≡ alternating a 1 steps → t ≡ a * p / one → t / 2 ≡ fallOf r
-fall-code r a p t e f h =
-    ap (λ (z : ℕ). z / 2) (h ∙ ap (λ (z : ℕ). a * z / one) f) ∙ div-div-eq-div-mul (a * alternating a 1 steps) one 2 ∙ ap (λ (z : ℕ). z * alternating z 1 steps / (one * 2)) e ∙ sym (fall-is r)
+pub half-is : (a p t : ℕ) → t ≡ a * p / one → t / 2 ≡ a * p / (one * 2)
+half-is a p t h = ap (λ (z : ℕ). z / 2) h ∙ div-div-eq-div-mul (a * p) one 2
 
 -- it is below 5, so that it leaves room for a float
-pub fall-room : (r q : ℕ) → 2 * r ≤ turn → q ≡ fallOf r → q - one + 128 < 2 ^ 61
-fall-room r q h e = go q (subst (λ (z : ℕ). 800 * z ≤ 3969 * one) (sym e) (fall-small r (omega arith)))
+pub half-room : (a p q : ℕ) → 400 * a ≤ 3969 * one → p ≤ one → q ≡ a * p / (one * 2) → q - one + 128 < 2 ^ 61
+half-room a p q h k e = go q (subst (λ (z : ℕ). 800 * z ≤ 3969 * one) (sym e) (half-most a p h k))
   where
     go : (q : ℕ) → 800 * q ≤ 3969 * one → q - one + 128 < 2 ^ 61
     go q h = omega arith
+
+pub fall-code : (r a p : ℕ) (y : Float) → a ≡ r * r / one → p ≡ alternating a 1 steps → y ≡ oneLess (a * p / (one * 2)) → y ≡ oneLess (fallOf r)
+fall-code r a p y e f h =
+    h ∙ ap oneLess (ap (λ (z : ℕ). a * z / (one * 2)) f ∙ ap (λ (z : ℕ). z * alternating z 1 steps / (one * 2)) e ∙ sym (fall-is r))
 
 pub one-less-below : (q f : ℕ) (y : Float) → f ≡ q → one < f → y ≡ floatOf (f - one) → neg y ≡ oneLess q
 unfolding oneLess

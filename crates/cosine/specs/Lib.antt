@@ -1,3 +1,4 @@
--- The definitions that the contract of the cosine cites.
+-- The definitions that the contracts of the cosine cite.
 pub mod Cos
+pub mod Both
 pub mod Examples

@@ -17,6 +17,9 @@ use Rattle.elementary.specs.declared.answer.Answer.{Answer}
 use Rattle.elementary.specs.declared.answer.Answer.the-variants as answer
 use Rattle.elementary.specs.Outcome.{Outcome, outside, inside, _then_, ofAnswer}
 use Rattle.cosine.specs.Cos.{cosOf}
+use Rattle.cosine.specs.Both.{bothOf}
+use Rattle.cosine.specs.declared.Cosines.{Cosines}
+use Rattle.cosine.specs.declared.Cosines.the-variants as cosines
 use Rattle.lattice.specs.Lattice.{everyOther, weightsOf, section, inputs, output, aIn, bIn, predicted, lpcOf, lsp2lpcOf}
 
 -- ---- every other entry
@@ -37,6 +40,12 @@ everyOther-at (x ∷ y ∷ l) (suc i) h =
     let e : 2 * suc i ≡ suc (suc (2 * i)) = omega arith in
     rw e (everyOther-at l i (omega arith))
 
+-- those of the list without its first are the entries 1, 3, 5, ..
+odd-at : (l : List Float) (i : ℕ) → 2 * i + 1 < length l → everyOther (drop 1 l) ‼ i ≡ l ‼ (2 * i + 1)
+odd-at l i h =
+    let e : 1 + 2 * i ≡ 2 * i + 1 = omega arith in
+    rw (← e) (everyOther-at (drop 1 l) i (simp length-drop (omega arith)) ∙ getD-drop 1 l (2 * i) nan)
+
 -- ---- the weights, of entries l: those that are left decide
 
 abbrev pub Weighed : List Float → List Float → ℕ → Type 0
@@ -49,30 +58,16 @@ weighed-none l p = go (weightsOf l)
     go outside = refl
     go (inside ps) = refl
 
-module _ (lsp p : List Float) (first i : ℕ) (here : first + 2 * i < length lsp) where
-  l : List Float
-  l = everyOther (drop first lsp)
-
-  read : l ‼ i ≡ lsp ‼ (first + 2 * i)
-  unfolding l
-  read = everyOther-at (drop first lsp) i (simp length-drop (omega arith)) ∙ getD-drop first lsp (2 * i) nan
-
-  long : i < length l
-  unfolding l
-  long = simp (length-everyOther, length-drop) (omega arith)
-
-  next : (r : Answer) → r ≡ cosOf (lsp ‼ (first + 2 * i)) → weightsOf (drop i l) ≡ (ofAnswer r then λ y. weightsOf (drop (i + 1) l) then λ ps. inside (− 2f ⊗ y ∷ ps))
+module _ (l p : List Float) (i : ℕ) (long : i < length l) (w : Weighed l p i) where
+  next : (r : Answer) → cosOf (l ‼ i) ≡ r → weightsOf (drop i l) ≡ (ofAnswer r then λ y. weightsOf (drop (i + 1) l) then λ ps. inside (− 2f ⊗ y ∷ ps))
   unfolding weightsOf
-  next r e = rw (left-next l i nan long, read, e) refl
+  next r e = rw (left-next l i nan long, e) refl
 
-  pub weighed-outside : (r : Answer) → r ≡ cosOf (lsp ‼ (first + 2 * i)) → r ≡ answer.Outside → Weighed (everyOther (drop first lsp)) p i → weightsOf (everyOther (drop first lsp)) ≡ outside
-  unfolding l
-  weighed-outside r e o w = w ∙ rw (next r e, o) refl
+  weighed-outside : cosOf (l ‼ i) ≡ answer.Outside → weightsOf l ≡ outside
+  weighed-outside o = w ∙ rw (next answer.Outside o) refl
 
-  pub weighed-more : (r : Answer) (y : Float) → r ≡ cosOf (lsp ‼ (first + 2 * i)) → r ≡ answer.Inside y → i < length p
-      → Weighed (everyOther (drop first lsp)) p i → Weighed (everyOther (drop first lsp)) (set p i (− 2f ⊗ y)) (i + 1)
-  unfolding l
-  weighed-more r y e o h w = w ∙ rw (next r e, o) (go (weightsOf (drop (i + 1) l)))
+  weighed-more : (y : Float) → cosOf (l ‼ i) ≡ answer.Inside y → i < length p → Weighed l (set p i (− 2f ⊗ y)) (i + 1)
+  weighed-more y o h = w ∙ rw (next (answer.Inside y) o) (go (weightsOf (drop (i + 1) l)))
     where
       go : (d : Outcome (List Float)) → (d then (λ ps. inside (− 2f ⊗ y ∷ ps)) then λ ps. inside (take i p ++ ps)) ≡ (d then λ ps. inside (take (i + 1) (set p i (− 2f ⊗ y)) ++ ps))
       go outside = refl
@@ -81,6 +76,60 @@ module _ (lsp p : List Float) (first i : ℕ) (here : first + 2 * i < length lsp
 pub weighed-all : (l p : List Float) (i : ℕ) → length l ≤ i → length p ≤ i → Weighed l p i → weightsOf l ≡ inside p
 unfolding weightsOf
 weighed-all l p i h g w = w ∙ rw (left-none l i h) (ap inside (rw (take-all i p g) (append-nil p)))
+
+-- ---- where one of the lists of weights is outside, linear prediction is
+
+module _ (lsp : List Float) where
+  outside-even : weightsOf (everyOther lsp) ≡ outside → lsp2lpcOf lsp ≡ outside
+  unfolding lsp2lpcOf
+  outside-even o = rw o refl
+
+  outside-odd : weightsOf (everyOther (drop 1 lsp)) ≡ outside → lsp2lpcOf lsp ≡ outside
+  unfolding lsp2lpcOf
+  outside-odd o = rw o (go (weightsOf (everyOther lsp)))
+    where
+      go : (d : Outcome (List Float)) → (d then λ p. outside then λ q. inside (lpcOf (length lsp) p q)) ≡ outside
+      go outside = refl
+      go (inside p) = refl
+
+-- ---- a turn: one entry for each list
+
+module _ (lsp p : List Float) (i : ℕ) (w : Weighed (everyOther lsp) p i) where
+  -- the last of the entries, where p has one more
+  module _ (here : 2 * i < length lsp) (r : Answer) (e : r ≡ cosOf (lsp ‼ (2 * i))) where
+    even : i < length (everyOther lsp)
+    even = simp length-everyOther (omega arith)
+
+    pub last-outside : r ≡ answer.Outside → lsp2lpcOf lsp ≡ outside
+    last-outside o = outside-even lsp (weighed-outside (everyOther lsp) p i even w (rw (everyOther-at lsp i here) (sym e ∙ o)))
+
+    pub last-more : (y : Float) → r ≡ answer.Inside y → i < length p → Weighed (everyOther lsp) (set p i (− 2f ⊗ y)) (i + 1)
+    last-more y o h = weighed-more (everyOther lsp) p i even w y (rw (everyOther-at lsp i here) (sym e ∙ o)) h
+
+  module _ (q : List Float) (v : Weighed (everyOther (drop 1 lsp)) q i) (here : 2 * i + 1 < length lsp) (r : Cosines) (e : r ≡ bothOf (cosOf (lsp ‼ (2 * i))) (cosOf (lsp ‼ (2 * i + 1)))) where
+    odd : i < length (everyOther (drop 1 lsp))
+    odd = simp (length-everyOther, length-drop) (omega arith)
+
+    pub turn-outside : r ≡ cosines.Outside → lsp2lpcOf lsp ≡ outside
+    turn-outside o = go (cosOf (lsp ‼ (2 * i))) (cosOf (lsp ‼ (2 * i + 1))) refl refl (sym e ∙ o)
+      where
+        go : (a b : Answer) → cosOf (lsp ‼ (2 * i)) ≡ a → cosOf (lsp ‼ (2 * i + 1)) ≡ b → bothOf a b ≡ cosines.Outside → lsp2lpcOf lsp ≡ outside
+        go answer.Outside b f g h = last-outside (omega arith) answer.Outside (sym f) refl
+        go (answer.Inside y) answer.Outside f g h = outside-odd lsp (weighed-outside (everyOther (drop 1 lsp)) q i odd v (rw (odd-at lsp i here) g))
+        go (answer.Inside y) (answer.Inside z) f g h = let x : _≡_ {A = ℕ} 0 1 = cc in absurd (omega arith)
+
+    pub turn-more : (y z : Float) → r ≡ cosines.Inside y z → i < length p → i < length q
+        → Weighed (everyOther lsp) (set p i (− 2f ⊗ y)) (i + 1) × Weighed (everyOther (drop 1 lsp)) (set q i (− 2f ⊗ z)) (i + 1)
+    turn-more y z o hp hq = go (cosOf (lsp ‼ (2 * i))) (cosOf (lsp ‼ (2 * i + 1))) refl refl (sym e ∙ o)
+      where
+        go : (a b : Answer) → cosOf (lsp ‼ (2 * i)) ≡ a → cosOf (lsp ‼ (2 * i + 1)) ≡ b → bothOf a b ≡ cosines.Inside y z
+            → Weighed (everyOther lsp) (set p i (− 2f ⊗ y)) (i + 1) × Weighed (everyOther (drop 1 lsp)) (set q i (− 2f ⊗ z)) (i + 1)
+        go answer.Outside b f g h = let x : _≡_ {A = ℕ} 0 1 = cc in absurd (omega arith)
+        go (answer.Inside y′) answer.Outside f g h = let x : _≡_ {A = ℕ} 0 1 = cc in absurd (omega arith)
+        go (answer.Inside y′) (answer.Inside z′) f g h =
+            let y″ : cosOf (lsp ‼ (2 * i)) ≡ answer.Inside y = cc in
+            let z″ : cosOf (lsp ‼ (2 * i + 1)) ≡ answer.Inside z = cc in
+            (last-more (omega arith) (answer.Inside y) (sym y″) y refl hp, weighed-more (everyOther (drop 1 lsp)) q i odd v z (rw (odd-at lsp i here) z″) hq)
 
 -- ---- a chain
 
@@ -168,19 +217,9 @@ lpc-made m n p q a1 a2 b1 b2 lpc en e1 e2 f1 f2 e =
     let l = length-predicted (eqb (m % 2) 1) p q (m + 1) 1f 0f 0f a a b b in
     rw (e, en, e1, e2, f1, f2) (first-set (predicted (eqb (m % 2) 1) p q (m + 1) 1f 0f 0f a a b b) 1f (omega (arith, l)))
 
-module _ (lsp : List Float) where
-  pub lpc-outside-even : weightsOf (everyOther lsp) ≡ outside → lsp2lpcOf lsp ≡ outside
-  unfolding lsp2lpcOf
-  lpc-outside-even o = rw o refl
-
-  module _ (p : List Float) (i : weightsOf (everyOther lsp) ≡ inside p) where
-    pub lpc-outside-odd : weightsOf (everyOther (drop 1 lsp)) ≡ outside → lsp2lpcOf lsp ≡ outside
-    unfolding lsp2lpcOf
-    lpc-outside-odd o = rw (i, o) refl
-
-    pub lpc-inside : (q : List Float) → weightsOf (everyOther (drop 1 lsp)) ≡ inside q → lsp2lpcOf lsp ≡ inside (lpcOf (length lsp) p q)
-    unfolding lsp2lpcOf
-    lpc-inside q j = rw (i, j) refl
+pub lpc-inside : (lsp p q : List Float) → weightsOf (everyOther lsp) ≡ inside p → weightsOf (everyOther (drop 1 lsp)) ≡ inside q → lsp2lpcOf lsp ≡ inside (lpcOf (length lsp) p q)
+unfolding lsp2lpcOf
+lpc-inside lsp p q i j = rw (i, j) refl
 
 -- the front of an array of zeros
 zeros : (n m : ℕ) → n ≤ m → take n (replicate m 0f) ≡ replicate n 0f

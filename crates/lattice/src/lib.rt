@@ -1,27 +1,43 @@
 // Line spectral pairs to linear prediction, by two chains of sections.
 ghost use mathlib.Core.Path.{_≡_};
-ghost use Prim.Native.Nat.{_+_, _-_, _/_, _≤_};
+ghost use Prim.Native.Nat.{_+_, _/_, _≤_};
 ghost use lib.ListN.{length, drop, replicate};
 ghost use Rattle.number.specs.F64.{0f, 1f};
-ghost use Rattle.elementary.specs.Outcome.{preparedOf, orElse};
-ghost use Rattle.elementary.specs.declared.answer.Prepared.the-variants.{Inside};
+ghost use Rattle.elementary.specs.Outcome.{outside, inside, preparedOf, orElse};
+ghost use Rattle.elementary.specs.declared.answer.Prepared.the-variants.{Outside, Inside};
 ghost use Rattle.lattice.specs.Lattice.{everyOther, weightsOf, inputs, output, aIn, bIn, predicted, lsp2lpcOf};
+use cosine::Cosines;
 use elementary::answer::Answer;
 use elementary::answer::Prepared;
 
-// -2 cos of the entries first, first + 2, .., until one is outside.
-fn weights(lsp: &[f64], first: usize, p: &mut [f64]) -> Prepared
-    requires { ⌜ (length (now p) ≡ (length (now lsp) + 1 - first) / 2) × (length (now lsp) ≤ 64) × (first ≤ 1) ⌝ }
-    ensures { λ r. ⌜ r ≡ preparedOf (weightsOf (everyOther (drop first (now (lsp .entry))))) ⌝ }
-    ensures { λ r. ⌜ (r ≡ Inside → now (p .exit) ≡ orElse (now (p .entry)) (weightsOf (everyOther (drop first (now (lsp .entry)))))) ⌝ }
+// -2 cos of the entries 0, 2, .. into p and of 1, 3, .. into q, until one is outside. One of each in a turn, since two cosines last hardly longer than one; where p has one more, it comes last.
+fn weights(lsp: &[f64], p: &mut [f64], q: &mut [f64]) -> Prepared
+    requires { ⌜ (length (now p) ≡ (length (now lsp) + 1) / 2) × (length (now q) ≡ length (now lsp) / 2) × (length (now lsp) ≤ 64) ⌝ }
+    ensures { λ r. ⌜ (r ≡ Outside → lsp2lpcOf (now (lsp .entry)) ≡ outside) ⌝ }
+    ensures { λ r. ⌜ (r ≡ Inside → (weightsOf (everyOther (now (lsp .entry))) ≡ inside (now (p .exit)))
+        × (weightsOf (everyOther (drop 1 (now (lsp .entry)))) ≡ inside (now (q .exit)))) ⌝ }
 {
     let mut i = 0;
-    while i < p.len() {
-        let cosine = cosine::cos(lsp[first + 2 * i]);
-        match cosine {
-            Answer::Inside(y) => {
+    while i < q.len() {
+        let even = lsp[2 * i];
+        let odd = lsp[2 * i + 1];
+        let cosines = cosine::cos_both(even, odd);
+        match cosines {
+            Cosines::Inside(y, z) => {
                 p[i] = -2.0 * y;
+                q[i] = -2.0 * z;
                 i += 1;
+            }
+            Cosines::Outside => {
+                return Prepared::Outside;
+            }
+        }
+    }
+    if i < p.len() {
+        let last = cosine::cos(lsp[2 * i]);
+        match last {
+            Answer::Inside(x) => {
+                p[i] = -2.0 * x;
             }
             Answer::Outside => {
                 return Prepared::Outside;
@@ -112,12 +128,8 @@ fn lpc_in(
     ensures { λ r. ⌜ r ≡ preparedOf (lsp2lpcOf (now (lsp .entry))) ⌝ }
     ensures { λ _. ⌜ now (lpc .exit) ≡ orElse (now (lpc .entry)) (lsp2lpcOf (now (lsp .entry))) ⌝ }
 {
-    let even_entries = weights(lsp, 0, p);
-    let Prepared::Inside = even_entries else {
-        return Prepared::Outside;
-    };
-    let odd_entries = weights(lsp, 1, q);
-    let Prepared::Inside = odd_entries else {
+    let cosines = weights(lsp, p, q);
+    let Prepared::Inside = cosines else {
         return Prepared::Outside;
     };
     predict(lsp.len() % 2 == 1, p, q, a1, a2, b1, b2, lpc);
