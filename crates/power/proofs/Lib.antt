@@ -5,7 +5,9 @@ mod Products
 mod Base
 mod PowerNear
 mod Patterns
+mod Narrow
 mod Search
+mod Window
 mod RootNear
 mod Answers
 pub mod Laws

@@ -3,10 +3,10 @@ use mathlib.Core.Path.{_≡_, refl, sym, ap, _∙_, subst}
 use mathlib.Core.Bool.{false}
 use mathlib.Core.Logic.{_⊎_, inl, inr}
 use Prim.Native.Nat.{ℕ, suc, _+_, _-_, _*_, _/_, _%_, _^_, _≤_, _<_}
-use native.Mathlib.Nat.{mul-assoc, mul-pos, add-comm, eq-or-lt-of-le, pow-succ', le-of-mul-le-mul-right, le-trans, le-of-eq, mul-le-mul-left, mul-le-mul-right}
+use native.Mathlib.Nat.{mul-assoc, mul-pos, add-comm, eq-or-lt-of-le, pow-succ', le-of-mul-le-mul-right, le-trans, le-of-eq, mul-le-mul, mul-le-mul-left, mul-le-mul-right}
 use native.Mathlib.Omega.{arith}
 use lib.Dec.{T, lit<, lit≤}
-use lib.Pow.{pow-add, pow-pos}
+use lib.Pow.{pow-add, pow-pos, pow-mono}
 use lib.Ieee.{Float, binary64, fits, ofBits, toBits}
 use lib.Ieee.Exact.{HasValue}
 use lib.Ieee.Positive.{num, den, den-pos, value→cross}
@@ -56,6 +56,13 @@ pub part-close : (f r : ℕ) → f ≤ H → r ≤ 8 → Close 0 (ofBits binary6
 part-close f r h l =
     lower (ofBits binary64 (f + (r + 1023) * H)) ((H + f) * 2 ^ r) 1022 H (mul-pos {m = H + f} {n = 2 ^ r} (omega arith) (pow-pos r)) (lit< tt) refl
     (subst (λ (z : ℕ). HasValue (ofBits binary64 (f + (r + 1023) * H)) false z (2 ^ 1074)) (ap (λ (z : ℕ). (H + f) * z) (pow-add 2 r 1022) ∙ sym (mul-assoc (H + f) (2 ^ r) (2 ^ 1022))) (field-value (r + 1023) (r + 1022) f (omega arith) (omega arith) h))
+
+-- it is from 1 to 2 ^ s, where r is below s
+pub part-least : (f r : ℕ) → H ≤ (H + f) * 2 ^ r
+part-least f r = mul-le-mul {n₁ = H} {m₁ = 1} {n₂ = H + f} {m₂ = 2 ^ r} (omega arith) (pow-pos r)
+
+pub part-most : (f r s : ℕ) → f ≤ H → r < s → (H + f) * 2 ^ r ≤ H * 2 ^ s
+part-most f r s h l = le-trans (mul-le-mul-right {m = H + f} {n = H * 2} (2 ^ r) (omega arith)) (le-trans (le-of-eq (mul-assoc H 2 (2 ^ r) ∙ ap (λ (z : ℕ). H * z) (sym (pow-succ' 2 r)))) (mul-le-mul-left H (pow-mono {i = suc r} {j = s} (omega arith))))
 
 -- ---- the base's own pattern
 pub record Bits (a : Float) (b : ℕ) : Type 0 where

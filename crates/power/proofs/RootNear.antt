@@ -2,10 +2,10 @@
 use mathlib.Core.Path.{_≡_, refl, sym, ap, _∙_}
 use mathlib.Core.Bool.{false}
 use Prim.Native.Nat.{ℕ, zero, suc, _+_, _-_, _*_, _/_, _%_, _^_, _≤_, _<_}
-use native.Mathlib.Nat.{le-trans, le-of-eq, mul-pos, mul-assoc, mul-le-mul, mul-le-mul-left, mul-le-mul-right, eq-of-mul-eq-mul-right, one-le-pow, pow-zero, pow-suc, pow-succ', mod-lt, div-add-mod, div-le-self}
+use native.Mathlib.Nat.{le-trans, mul-pos, eq-of-mul-eq-mul-right, one-le-pow, pow-zero, pow-suc, mod-lt, div-add-mod, div-le-self}
 use native.Mathlib.Omega.{arith}
 use lib.Dec.{T, lit<}
-use lib.Pow.{pow-add, pow-pos, pow-mono}
+use lib.Pow.{pow-add, pow-pos}
 use lib.Ieee.{Float, binary64, ofBits}
 use lib.Ieee.Exact.{HasValue}
 use lib.Ieee.Positive.{num, den, positive, positive-of-value, value→cross}
@@ -16,7 +16,7 @@ use Rattle.elementary.proofs.Ratio.{B, Ratio, ratio-same}
 use Rattle.elementary.proofs.Rounding.{Close}
 use Rattle.power.specs.Power.{digits, rootOfPattern}
 use Rattle.power.proofs.Base.{Base, mul-pow}
-use Rattle.power.proofs.Patterns.{Bits, field-value, part-close}
+use Rattle.power.proofs.Patterns.{Bits, field-value, part-close, part-least, part-most}
 use Rattle.power.proofs.Search.{root-room, root-ratio}
 use Rattle.power.proofs.Near.{root-within}
 
@@ -94,10 +94,10 @@ module _ (a : Float) (s b : ℕ) (k : Base a s) (own : Bits a b) where
   few = omega (arith, rest, k .upto)
 
   least : H ≤ N
-  least = mul-le-mul {n₁ = H} {m₁ = 1} {n₂ = H + b % H} {m₂ = 2 ^ (t % s)} (omega arith) (pow-pos (t % s))
+  least = part-least (b % H) (t % s)
 
   most : N ≤ H * 2 ^ s
-  most = le-trans (mul-le-mul-right {m = H + b % H} {n = H * 2} (2 ^ (t % s)) (omega arith)) (le-trans (le-of-eq (mul-assoc H 2 (2 ^ (t % s)) ∙ ap (λ (z : ℕ). H * z) (sym (pow-succ' 2 (t % s))))) (mul-le-mul-left H (pow-mono {i = suc (t % s)} {j = s} (omega (arith, rest)))))
+  most = part-most (b % H) (t % s) s (omega arith) rest
 
   turns : t / s ≤ 960
   turns = le-trans (div-le-self t s) (omega (arith, own .most))

@@ -1,8 +1,8 @@
 -- The search for the root's digits: v * c ^ s is at most 1 below them and at least 1 above them, up to the factors of the products. Assumes nothing.
-use mathlib.Core.Path.{_≡_, refl, sym, ap, _∙_, subst}
-use mathlib.Core.Bool.{Bool, true, false, cond}
-use Prim.Native.Nat.{ℕ, zero, suc, _+_, _*_, _^_, _≤_, _<_}
-use native.Mathlib.Nat.{le-trans, le-of-eq, mul-comm, mul-assoc, mul-pos, mul-le-mul, mul-le-mul-left, mul-le-mul-right, le-of-mul-le-mul-left, pow-le-pow-left, one-le-pow, pow-suc}
+use mathlib.Core.Path.{_≡_, sym, ap, _∙_}
+use mathlib.Core.Bool.{true, false}
+use Prim.Native.Nat.{ℕ, _+_, _*_, _^_, _≤_, _<_}
+use native.Mathlib.Nat.{le-trans, le-of-eq, le-of-lt, mul-comm, mul-assoc, mul-pos, mul-le-mul, mul-le-mul-left, mul-le-mul-right, le-of-mul-le-mul-left, pow-le-pow-left, one-le-pow}
 use native.Mathlib.Omega.{arith}
 use lib.Dec.{T, lit<, lit≤}
 use lib.Pow.{pow-add, pow-mono}
@@ -17,19 +17,20 @@ use Rattle.power.specs.Power.{products, digits, half}
 use Rattle.power.proofs.Products.{same, Central, products-close}
 use Rattle.power.proofs.Base.{mul-pow}
 use Rattle.power.proofs.Patterns.{half-close}
+use Rattle.power.proofs.Narrow.{Around, narrow}
 
 -- ---- the test against 1
-test-below : (z : Float) → T (positive z) → lt z 1f ≡ true → num z ≤ den z
+pub test-below : (z : Float) → T (positive z) → lt z 1f ≡ true → num z < den z
 unfolding lt ofBits
 test-below nan p t = absurd p
 test-below (inf s) p t = absurd p
 test-below (fin true m e) p t = absurd p
 test-below (fin false m e) p t = go (m * up e) (down e) (ltb-true (m * up e * 1) (1 * down e) t)
   where
-    go : (n d : ℕ) → n * 1 < 1 * d → n ≤ d
+    go : (n d : ℕ) → n * 1 < 1 * d → n < d
     go n d h = omega arith
 
-test-above : (z : Float) → T (positive z) → lt z 1f ≡ false → den z ≤ num z
+pub test-above : (z : Float) → T (positive z) → lt z 1f ≡ false → den z ≤ num z
 unfolding lt ofBits
 test-above nan p t = absurd p
 test-above (inf s) p t = absurd p
@@ -60,8 +61,8 @@ module _ (v : Float) (N s : ℕ) (few : s ≤ 8) (own : Close 0 v N H) (least : 
           turn : (t p : ℕ) → H * t * p ≡ H * p * t
           turn t p = omega arith
 
-  tested : (m : ℕ) → m ≤ H → Close s (products v (half m) s) (N * (H + m) ^ s) (H * B ^ s)
-  tested m h = products-close v (half m) N H (H + m) B s few own (half-close m h) (λ i l. central m i h (omega arith))
+  pub tested : (m n : ℕ) → m ≤ H → n ≤ 8 → Close n (products v (half m) n) (N * (H + m) ^ n) (H * B ^ n)
+  tested m n h l = products-close v (half m) N H (H + m) B n l own (half-close m h) (λ i k. central m i h (omega arith))
 
   pos : 0 < B ^ s
   pos = one-le-pow s B (lit< tt)
@@ -73,8 +74,8 @@ module _ (v : Float) (N s : ℕ) (few : s ≤ 8) (own : Close 0 v N H) (least : 
   below : (m : ℕ) → m ≤ H → lt (products v (half m) s) 1f ≡ true → N * (H + m) ^ s ≤ H * B⁺ ^ s
   below m h t =
       let z = products v (half m) s in
-      let c = tested m h in
-      go (N * (H + m) ^ s) (num z) (den z) (B ^ s) (B⁺ ^ s) (den-pos z) pos (test-below z (c .above) t) (c .ratio .lo)
+      let c = tested m s h few in
+      go (N * (H + m) ^ s) (num z) (den z) (B ^ s) (B⁺ ^ s) (den-pos z) pos (le-of-lt (test-below z (c .above) t)) (c .ratio .lo)
     where
       go : (x n d p q : ℕ) → 0 < d → 0 < p → n ≤ d → x * d * p ≤ n * (H * p) * q → x ≤ H * q
       go x n d p q D P l r = let w : n * (H * p * q) ≤ d * (H * p * q) = mul-le-mul-right (H * p * q) l in le-of-mul-le-mul-left {k = d * p} (omega arith) (mul-pos D P)
@@ -82,42 +83,21 @@ module _ (v : Float) (N s : ℕ) (few : s ≤ 8) (own : Close 0 v N H) (least : 
   above : (m : ℕ) → m ≤ H → lt (products v (half m) s) 1f ≡ false → H * B ^ s * B ^ s ≤ N * (H + m) ^ s * B⁺ ^ s
   above m h t =
       let z = products v (half m) s in
-      let c = tested m h in
+      let c = tested m s h few in
       go (N * (H + m) ^ s) (num z) (den z) (B ^ s) (B⁺ ^ s) (den-pos z) (test-above z (c .above) t) (c .ratio .hi)
     where
       go : (x n d p q : ℕ) → 0 < d → d ≤ n → n * (H * p) * p ≤ x * d * q → H * p * p ≤ x * q
       go x n d p q D l r = let w : d * (H * p * p) ≤ n * (H * p * p) = mul-le-mul-right (H * p * p) l in le-of-mul-le-mul-left {k = d} (omega arith) D
 
-  -- the root lies from lo to hi
-  record Around (lo hi : ℕ) : Type 0 where
-    pub under : N * (H + lo) ^ s ≤ H * B⁺ ^ s
-    pub over : H * B ^ s * B ^ s ≤ N * (H + hi) ^ s * B⁺ ^ s
-    pub room : hi ≤ H
+  -- v * c ^ s for the c of the digits m is at most 1, or at least 1
+  abbrev Most : ℕ → Type 0
+  Most m = N * (H + m) ^ s ≤ H * B⁺ ^ s
 
-  -- n digits more
-  narrow : (n m : ℕ) → Around m (m + 2 ^ n) → Around (digits v s n m) (digits v s n m + 1)
-  unfolding digits
-  narrow zero m a = a
-  narrow (suc n) m a = turn (narrow n) (lt (products v (half (m + 2 ^ n)) s) 1f) refl
-    where
-      double : (p : ℕ) → m + p * 2 ≡ m + p + p
-      double p = omega arith
-
-      wide : Around m (m + 2 ^ n + 2 ^ n)
-      wide = subst (λ (z : ℕ). Around m z) (ap (λ (z : ℕ). m + z) (pow-suc 2 n) ∙ double (2 ^ n)) a
-
-      room : m + 2 ^ n ≤ H
-      room = go (2 ^ n) (wide .room)
-        where
-          go : (p : ℕ) → m + p + p ≤ H → m + p ≤ H
-          go p h = omega arith
-
-      turn : ((k : ℕ) → Around k (k + 2 ^ n) → Around (digits v s n k) (digits v s n k + 1)) → (b : Bool) → lt (products v (half (m + 2 ^ n)) s) 1f ≡ b → Around (digits v s n (cond b (m + 2 ^ n) m)) (digits v s n (cond b (m + 2 ^ n) m) + 1)
-      turn rest true t = rest (m + 2 ^ n) (record { under = below (m + 2 ^ n) room t; over = wide .over; room = wide .room })
-      turn rest false t = rest m (record { under = wide .under; over = above (m + 2 ^ n) room t; room = room })
+  abbrev Least : ℕ → Type 0
+  Least m = H * B ^ s * B ^ s ≤ N * (H + m) ^ s * B⁺ ^ s
 
   -- from 1/2 to 1
-  start : Around 0 (0 + 2 ^ 52)
+  start : Around Most Least 0 (0 + 2 ^ 52)
   start = record { under = low; over = high; room = lit≤ tt }
     where
       low : N * (H + 0) ^ s ≤ H * B⁺ ^ s
@@ -128,12 +108,16 @@ module _ (v : Float) (N s : ℕ) (few : s ≤ 8) (own : Close 0 v N H) (least : 
       high : H * B ^ s * B ^ s ≤ N * (H + (0 + 2 ^ 52)) ^ s * B⁺ ^ s
       high = mul-le-mul (mul-le-mul-right (B ^ s) least) grow
 
+  -- the digits that are found, and the number after them
+  ends : Around Most Least (digits v s 52 0) (digits v s 52 0 + 1)
+  ends = narrow v s Most Least below above 52 0 start
+
   pub root-room : digits v s 52 0 + 1 ≤ H
-  root-room = narrow 52 0 start .room
+  root-room = ends .room
 
   -- the first number above the digits that are found
   pub root-ratio : Ratio 24 (N * (H + (digits v s 52 0 + 1)) ^ s) (H * B ^ s) 1 1
-  root-ratio = ratio-more {i = s + (s + s)} (omega arith) (go (digits v s 52 0) (narrow 52 0 start))
+  root-ratio = ratio-more {i = s + (s + s)} (omega arith) (go (digits v s 52 0) ends)
     where
       next : (x y b : ℕ) → b ≤ 2 * x → y ≡ x + 1 → y * (b * b) ≤ x * ((b + 1) * (b + 1))
       next x y b h e = let w : b * b ≤ 2 * x * b = mul-le-mul-right b h in let z : y * (b * b) ≡ (x + 1) * (b * b) = ap (λ (z : ℕ). z * (b * b)) e in omega arith
@@ -151,7 +135,7 @@ module _ (v : Float) (N s : ℕ) (few : s ≤ 8) (own : Close 0 v N H) (least : 
       squares : (x b : ℕ) → (x * (b * b)) ^ s ≡ x ^ s * (b ^ s * b ^ s)
       squares x b = mul-pow x (b * b) s ∙ ap (λ (z : ℕ). x ^ s * z) (mul-pow b b s)
 
-      go : (m : ℕ) → Around m (m + 1) → Ratio (s + (s + s)) (N * (H + (m + 1)) ^ s) (H * B ^ s) 1 1
+      go : (m : ℕ) → Around Most Least m (m + 1) → Ratio (s + (s + s)) (N * (H + (m + 1)) ^ s) (H * B ^ s) 1 1
       go m a =
           let k : (H + (m + 1)) ^ s * (B ^ s * B ^ s) ≤ (H + m) ^ s * (B⁺ ^ s * B⁺ ^ s) = same _≤_ (squares (H + (m + 1)) B) (squares (H + m) B⁺) (pow-le-pow-left (next (H + m) (H + (m + 1)) B (omega arith) (omega arith)) s) in
           record {

@@ -25,13 +25,12 @@ digit m n k e h r =
     go : (p : ℕ) → m + p * 2 ≤ 2 ^ 52 → m + p + p ≤ 2 ^ 52
     go p h = omega arith
 
--- w is the digit's weight, p the product that was tested and b the answer
-pub turn : (v : Float) (s n k m w : ℕ) (p : Float) (b : Bool) → n ≡ suc k → w ≡ 2 ^ k → p ≡ products v (half (m + w)) s → lt p 1f ≡ b → digits v s k (cond b (m + w) m) ≡ digits v s n m
+-- w is the digit's weight, b what the test said
+pub turn : (v : Float) (s n k m w : ℕ) (b : Bool) → n ≡ suc k → w ≡ 2 ^ k → lt (products v (half (m + w)) s) 1f ≡ b → digits v s k (cond b (m + w) m) ≡ digits v s n m
 unfolding digits
-turn v s n k m w p b i j e t =
+turn v s n k m w b i j t =
     subst (λ (z : ℕ). digits v s k (cond b (m + z) m) ≡ digits v s n m) (sym j)
-    (ap (λ (z : Bool). digits v s k (cond z (m + 2 ^ k) m)) (sym t ∙ ap (λ (z : Float). lt z 1f) (e ∙ ap (λ (z : ℕ). products v (half (m + z)) s) j))
-    ∙ sym (ap (λ (z : ℕ). digits v s z m) i))
+    (ap (λ (z : Bool). digits v s k (cond z (m + 2 ^ k) m)) (sym t ∙ ap (λ (z : ℕ). lt (products v (half (m + z)) s) 1f) j) ∙ sym (ap (λ (z : ℕ). digits v s z m) i))
 
 none-left : (v : Float) (s m : ℕ) → m ≡ digits v s 0 m
 unfolding digits

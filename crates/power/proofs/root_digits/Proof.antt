@@ -1,70 +1,57 @@
--- `root_digits` meets its contract: what is left to find is what the definition leaves. Assumes nothing.
-use mathlib.Core.Path.{_≡_, refl, _∙_}
-use mathlib.Core.Bool.{true, false}
-use Prim.Native.Nat.{_+_, _-_, _*_, _%_, _^_, _≤_}
+-- `root_digits` meets its contract: a search in a window where the test turns finds what the whole search finds. Assumes nothing.
+use mathlib.Core.Path.{sym, _∙_}
+use Prim.Native.Nat.{_-_}
 use native.Mathlib.Omega.{arith}
+use borrow.Author.Needs.{needs}
+use borrow.Author.Tests.{not-true}
 use Rattle.root.proofs.Floats.{no-nan}
-use Rattle.power.specs.Power.{digits}
-use Rattle.power.proofs.Turns.{Digit, digit, turn, found}
+use Rattle.power.proofs.Window.{in-window}
 use Rattle.power.proofs.root_digits.Statement.{statement}
 use Rattle.power.proofs.root_digits.Tie as tie
 
-abbrev Inv-loop : tie.InvT-loop
-Inv-loop v s m₀ n₀ m n = (n ≤ 52) × (m + 2 ^ n ≤ 2 ^ 52) × (digits v s n m ≡ digits v s 52 0)
+float-from-bits-v : tie.Need-float-from-bits-v
+float-from-bits-v c = no-nan (c .args .b) (omega arith)
 
-abbrev μ-loop : tie.MeasureT-loop
-μ-loop v s m₀ n₀ m n = n
+guess-requires : tie.Need-guess-requires
+guess-requires c κs = search needs
 
-loop-holds : tie.Need-loop-holds Inv-loop μ-loop
-loop-holds c = (omega arith, omega arith, refl)
+is-below-requires : tie.Need-is-below-requires
+is-below-requires c κs = omega arith
 
--- the digit that a turn tries
-tried : (c : tie.In-loop Inv-loop μ-loop) → Digit (c .before .loop .m) (c .before .loop .n - 1)
-tried c = let l = c .before .loop in digit (l .m) (l .n) (l .n - 1) (omega arith) (l .inv .0) (l .inv .1)
+add-is-below : tie.Need-add-is-below
+add-is-below c = omega arith
 
-sub-n : tie.Need-sub-n Inv-loop μ-loop
-sub-n c = omega arith
+is-below-requires-2 : tie.Need-is-below-requires-2
+is-below-requires-2 c κs = omega arith
 
-shl-next : tie.Need-shl-next Inv-loop μ-loop
-shl-next c = omega arith
+digits-from-requires : tie.Need-digits-from-requires
+digits-from-requires c κs = search needs
 
-add-next : tie.Need-add-next Inv-loop μ-loop
-add-next c = let d = tried c in omega arith
-
-add-times : tie.Need-add-times Inv-loop μ-loop
-add-times c = let d = tried c in omega arith
-
-float-from-bits-times : tie.Need-float-from-bits-times Inv-loop μ-loop
-float-from-bits-times c = let d = tried c in let l = c .before .loop in no-nan (4602678819172646912 + (l .m + 1 * 2 ^ (l .n - 1) % 18446744073709551616)) (omega arith)
-
-times-requires : tie.Need-times-requires Inv-loop μ-loop
-times-requires c κs = tt
-
-loop-less : tie.Need-loop-less Inv-loop μ-loop
-loop-less c = omega arith
-
-loop-again : tie.Need-loop-again Inv-loop μ-loop
-loop-again c =
-    let d = tried (c .before .before) in
-    let l = c .before .before .before .loop in
-    let a = c .before .before .before .before .args in
-    (omega arith, omega arith, turn (a .v) (a .s) (l .n) (l .n - 1) (l .m) (1 * 2 ^ (l .n - 1) % 18446744073709551616) (c .before .times .result) true (omega arith) (d .weight) (c .before .times .ensures) (c .if1 .taken) ∙ l .inv .2)
-
-loop-less-2 : tie.Need-loop-less-2 Inv-loop μ-loop
-loop-less-2 c = omega arith
-
-loop-again-2 : tie.Need-loop-again-2 Inv-loop μ-loop
-loop-again-2 c =
-    let d = tried (c .before .before) in
-    let l = c .before .before .before .loop in
-    let a = c .before .before .before .before .args in
-    (omega arith, omega arith, turn (a .v) (a .s) (l .n) (l .n - 1) (l .m) (1 * 2 ^ (l .n - 1) % 18446744073709551616) (c .before .times .result) false (omega arith) (d .weight) (c .before .times .ensures) (c .if1 .left) ∙ l .inv .2)
-
-returns : tie.Need-returns Inv-loop μ-loop
+returns : tie.Need-returns
 returns c =
-    let l = c .before .loop in
-    let a = c .before .before .args in
-    found (a .v) (a .s) (l .n) (l .m) (digits (a .v) (a .s) 52 0) (omega arith) (l .inv .1) (l .inv .2)
+    let w = c .before in
+    let x = w .before .before .before in
+    let a = x .before .before .before .before in
+    let low = x .before .before .before .guess .result - 2 in
+    let same = in-window (a .args .b) (a .args .s) 2 low (a .pre .0 .0) (a .pre .0 .1) (a .pre .1) (omega arith) (sym (x .is-below .ensures) ∙ w .before .before .if3 .taken) (sym (w .before .is-below2 .ensures) ∙ not-true (w .before .is-below2 .result) (w .if4 .taken)) in
+    (c .digits-from .ensures .0 ∙ same, c .digits-from .ensures .1)
+
+digits-from-requires-2 : tie.Need-digits-from-requires-2
+digits-from-requires-2 c κs = search needs
+
+returns-2 : tie.Need-returns-2
+returns-2 c = search needs
 
 pub root-digits-spec : {M : Type 1} → statement M
-root-digits-spec = tie.close (tie.spec Inv-loop μ-loop loop-holds sub-n shl-next add-next add-times float-from-bits-times times-requires loop-less loop-again loop-less-2 loop-again-2 returns)
+root-digits-spec =
+    tie.close
+    (tie.spec
+    float-from-bits-v
+    guess-requires
+    is-below-requires
+    add-is-below
+    is-below-requires-2
+    digits-from-requires
+    returns
+    digits-from-requires-2
+    returns-2)

@@ -1,7 +1,7 @@
 -- `root_of` meets its contract: the patterns that it makes are the definition's. Assumes nothing.
 use mathlib.Core.Path.{ap}
 use Prim.Native.Nat.{ℕ, _+_, _-_, _*_, _/_, _%_, _≤_, _<_}
-use native.Mathlib.Nat.{le-trans, lt-of-lt-of-le, mod-lt, div-le-self}
+use native.Mathlib.Nat.{le-trans, mod-lt, div-le-self}
 use native.Mathlib.Omega.{arith}
 use lib.Ieee.{binary64, ofBits}
 use Rattle.root.proofs.Parts.{H}
@@ -12,7 +12,7 @@ use Rattle.power.proofs.root_of.Tie as tie
 
 -- the exponent of v, and what the answer's exponent is made of
 pub record Small (t s : ℕ) : Type 0 where
-  pub rest : t % s < 8
+  pub rest : t % s < s
   pub turns : t / s ≤ 960
   pub all : 840 / s ≤ 840
 
@@ -21,7 +21,7 @@ small c =
     let s = c .args .s in
     let t = c .args .b / H - 183 in
     record {
-      rest = lt-of-lt-of-le (mod-lt t (c .pre .1 .0)) (c .pre .1 .1);
+      rest = mod-lt t (c .pre .1 .0);
       turns = le-trans (div-le-self t s) (omega arith);
       all = div-le-self 840 s;
     }
@@ -29,26 +29,20 @@ small c =
 sub-t : tie.Need-sub-t
 sub-t c = omega arith
 
-rem-v : tie.Need-rem-v
-rem-v c = omega arith
+rem-part : tie.Need-rem-part
+rem-part c = omega arith
 
-add-v : tie.Need-add-v
-add-v c = let k = small c in omega arith
+add-part : tie.Need-add-part
+add-part c = let k = small c in omega arith
 
-mul-v : tie.Need-mul-v
-mul-v c = let k = small c in omega arith
+mul-part : tie.Need-mul-part
+mul-part c = let k = small c in omega arith
 
-add-v-2 : tie.Need-add-v-2
-add-v-2 c = let k = small c in omega arith
-
-float-from-bits-v : tie.Need-float-from-bits-v
-float-from-bits-v c =
-    let k = small c in
-    let b = c .args .b in
-    no-nan (b % H + ((b / H - 183) % c .args .s + 1023) * H) (omega arith)
+add-part-2 : tie.Need-add-part-2
+add-part-2 c = let k = small c in omega arith
 
 root-digits-requires : tie.Need-root-digits-requires
-root-digits-requires c κs = tt
+root-digits-requires c κs = let k = small c in ((omega arith, omega arith), c .pre .1 .1)
 
 add-result : tie.Need-add-result
 add-result c = omega (arith, c .root-digits .ensures .1)
@@ -84,4 +78,4 @@ returns c =
     ap (λ (m : ℕ). ofBits binary64 (m + 1 + (1022 + 840 / a .s - (a .b / H - 183) / a .s) * H)) (c .root-digits .ensures .0)
 
 pub root-of-spec : {M : Type 1} → statement M
-root-of-spec = tie.close (tie.spec sub-t rem-v add-v mul-v add-v-2 float-from-bits-v root-digits-requires add-result div-result add-result-2 div-result-2 sub-result mul-result add-result-3 float-from-bits-result returns)
+root-of-spec = tie.close (tie.spec sub-t rem-part add-part mul-part add-part-2 root-digits-requires add-result div-result add-result-2 div-result-2 sub-result mul-result add-result-3 float-from-bits-result returns)
