@@ -49,7 +49,7 @@ add-after : tie.Need-add-after
 add-after c = omega (arith, few (c .before .before .before .before .before .before), c .before .before .before .before .before .before .before .before .before .before .before .before .before .before .before .before .before .pre .2)
 
 sub-after : tie.Need-sub-after
-sub-after c = few (c .before .before .before .before .before .before .before)
+sub-after c = omega (arith, few (c .before .before .before .before .before .before .before))
 
 same-length : tie.Need-same-length
 same-length c = search needs
