@@ -15,5 +15,8 @@ bothOf (answer.Inside y) (answer.Inside z) = cosines.Inside y z
 pub both-inside : bothOf (answer.Inside 0f) (answer.Inside 1f) ≡ cosines.Inside 0f 1f
 both-inside = refl
 
+pub first-outside : bothOf answer.Outside (answer.Inside 1f) ≡ cosines.Outside
+first-outside = refl
+
 pub second-outside : bothOf (answer.Inside 0f) answer.Outside ≡ cosines.Outside
 second-outside = refl

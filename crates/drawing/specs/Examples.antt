@@ -25,7 +25,7 @@ use Rattle.configuration.specs.Limits.{limitsKept, usual}
 use Rattle.voice.specs.declared.Voice.{Voice}
 use Rattle.voice.specs.Voice.{none, acceptable, idle}
 use Rattle.drawing.specs.Step.{turnOf, step, filtered}
-use Rattle.drawing.specs.Finish.{ended}
+use Rattle.drawing.specs.Finish.{pulseAtEnd, entriesAtEnd, ended}
 use Rattle.drawing.specs.Draw.{voiceOf, placed}
 
 -- numbers as floats
@@ -84,6 +84,23 @@ pub the-last : drew (voiceOf 0) 9 (midway 5 1 (train 4f 1f 0f 2f) freshRandom (3
     ≡ answer 0 (0f ∷ []) (midway 6 0 (train 2f 2f 0f 2f) freshRandom (5f ∷ 0f ∷ []) (0f ∷ 0f ∷ []))
 unfolding drew steps step turnOf sampleBy idle acceptable limitsKept plainStep stepOf pulseOf endOf plus warpAt warps warped pushed dffOf stageOf stagesFrom dfOf rootOf rootOfUnits unitsOf nearestRoot floorRoot ofInt ofBits add sub mul neg ne eq le lt
 the-last = refl
+
+-- the pulse train and the coefficients where no sample is left, and where one is
+abbrev at-end : ℕ → Voice
+at-end left = midway 6 left (train 4f 2f 0f 2f) freshRandom (3f ∷ 0f ∷ []) (0f ∷ 2f ∷ [])
+
+pub pulse-ends : pulseAtEnd (at-end 0) ≡ train 2f 2f 0f 2f
+unfolding endOf
+pulse-ends = refl
+
+pub pulse-goes-on : pulseAtEnd (at-end 1) ≡ train 4f 2f 0f 2f
+pulse-goes-on = refl
+
+pub entries-at-targets : entriesAtEnd (at-end 0) (3f ∷ 0f ∷ []) ≡ 5f ∷ 0f ∷ []
+entries-at-targets = refl
+
+pub entries-stay : entriesAtEnd (at-end 1) (3f ∷ 0f ∷ []) ≡ 3f ∷ 0f ∷ []
+entries-stay = refl
 
 -- what is left to do of that sample once its excitation is made and counted, and of one after which two are left
 pub last-ended : ended (midway 6 0 (train 4f 2f 0f 2f) freshRandom (3f ∷ 0f ∷ []) (0f ∷ 2f ∷ [])) (0f ∷ [])
