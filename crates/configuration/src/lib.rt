@@ -30,7 +30,7 @@ const FURTHEST: f64 = 20.0;
 
 // In the order of the rest records' first twelve slots; `log` is the log gain.
 #[repr(C)]
-#[derive(Drop)]
+#[derive(Clone, Copy)]
 pub struct Configuration {
     pub nmcp: usize,
     pub nlpf: usize,

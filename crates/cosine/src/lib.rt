@@ -12,7 +12,7 @@ mod product;
 mod sum;
 
 // The answer for two arguments: inside where both are.
-#[derive(Drop)]
+#[derive(Clone, Copy)]
 pub enum Cosines {
     Outside,
     Inside(f64, f64),

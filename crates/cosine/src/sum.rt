@@ -5,14 +5,14 @@ ghost use Rattle.cosine.specs.Cos.{one, turn, alternating, steps, fall_of, float
 use crate::product::high_product;
 
 // Two numbers side by side. Each step of the series waits for the one before it: two series, taken step by step together, last hardly longer than one.
-#[derive(Drop)]
+#[derive(Clone, Copy)]
 pub(crate) struct Two {
     pub(crate) first: u64,
     pub(crate) second: u64,
 }
 
 // The cosines of two angles.
-#[derive(Drop)]
+#[derive(Clone, Copy)]
 pub(crate) struct Pair {
     pub(crate) first: f64,
     pub(crate) second: f64,

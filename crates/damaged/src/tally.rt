@@ -5,7 +5,7 @@ use voice::Voice;
 use voice::answers::{DONE, RECORDS_WRONG};
 
 // How many were refused and how many accepted, and how many broke the rule.
-#[derive(Drop)]
+#[derive(Clone, Copy)]
 pub struct Tally {
     pub refused: u64,
     pub accepted: u64,

@@ -10,7 +10,7 @@ use voice::{Voice, usable};
 
 // What draw and whole frame answer: a number of the table, the count of samples made, and the voice after them.
 #[repr(C)]
-#[derive(Drop)]
+#[derive(Clone, Copy)]
 pub struct Drawn {
     pub number: u64,
     pub made: usize,

@@ -17,14 +17,14 @@ use pulse::Pulse;
 use voice::Voice;
 
 // How many samples were made, and the voice after the last of them.
-#[derive(Drop)]
+#[derive(Clone, Copy)]
 pub struct Sounded {
     pub made: usize,
     pub voice: Voice,
 }
 
 // What the filter and the frame's end leave besides the coefficients: the pulse train, and the taps of both filters.
-#[derive(Drop)]
+#[derive(Clone, Copy)]
 pub struct Remains {
     pub pulse: Pulse,
     pub zero: MelLogSpectrumApproximation,

@@ -13,7 +13,7 @@ use cepstrum::coefficients::b2c;
 use lost::{later, unmoved};
 
 // A number for each of the two.
-#[derive(Drop)]
+#[derive(Clone, Copy)]
 pub struct Both {
     pub first: f64,
     pub second: f64,

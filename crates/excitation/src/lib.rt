@@ -14,7 +14,7 @@ use noise::Random;
 use pulse::Pulse;
 
 // A sample, with the pulse train and the noise's `next` and `used` after it; or dry.
-#[derive(Drop)]
+#[derive(Clone, Copy)]
 pub enum Sample {
     Dry,
     Made(f64, Pulse, u64, usize),
@@ -22,7 +22,7 @@ pub enum Sample {
 
 // What a stretch came to: how many samples were made, and the pulse train and the noise after the last of them.
 #[repr(C)]
-#[derive(Drop)]
+#[derive(Clone, Copy)]
 pub struct Filled {
     pub made: usize,
     pub pulse: Pulse,

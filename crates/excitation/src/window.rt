@@ -9,7 +9,7 @@ use noise::Random;
 use pulse::Pulse;
 
 // How many samples were made, and the pulse train and the noise's `next` and `used` after the last of them.
-#[derive(Drop)]
+#[derive(Clone, Copy)]
 struct Slid {
     made: usize,
     pulse: Pulse,

@@ -33,7 +33,7 @@ fn rest(negative: bool, u: u64, m: u64) -> f64
 }
 
 // What e^x is made of: the argument of the sum, and what the sum is multiplied by.
-#[derive(Drop)]
+#[derive(Clone, Copy)]
 pub struct Parts {
     pub rest: f64,
     pub power: f64,

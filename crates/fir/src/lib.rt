@@ -3,7 +3,7 @@ ghost use Rattle.std.specs.Prelude.{◌≡◌, [], ◌∷◌, ◌+◌, ◌<◌, 
 ghost use Rattle.fir.specs.Fir.{start, group, tap};
 
 // What is carried from tap to tap: the remainder, and the two running sums.
-#[derive(Drop)]
+#[derive(Clone, Copy)]
 pub struct Carried {
     pub rem: f64,
     pub y0: f64,
@@ -11,7 +11,7 @@ pub struct Carried {
 }
 
 // The first two taps anew, and what is carried on past them.
-#[derive(Drop)]
+#[derive(Clone, Copy)]
 pub struct Two {
     pub e0: f64,
     pub e1: f64,
@@ -19,7 +19,7 @@ pub struct Two {
 }
 
 // Four taps anew, and what is carried on past them.
-#[derive(Drop)]
+#[derive(Clone, Copy)]
 pub struct Four {
     pub e0: f64,
     pub e1: f64,
@@ -29,7 +29,7 @@ pub struct Four {
 }
 
 // A tap anew, and what is carried on past it.
-#[derive(Drop)]
+#[derive(Clone, Copy)]
 pub struct One {
     pub e0: f64,
     pub on: Carried,

@@ -8,7 +8,7 @@ use crate::{Abreast, Pair, group, start, tap};
 use fir::Carried;
 
 // A number for each row.
-#[derive(Drop)]
+#[derive(Clone, Copy)]
 pub struct Numbers {
     pub first: Pair,
     pub second: Pair,
@@ -16,7 +16,7 @@ pub struct Numbers {
 }
 
 // What is carried from tap to tap, for each row.
-#[derive(Drop)]
+#[derive(Clone, Copy)]
 pub struct Along {
     pub first: Abreast,
     pub second: Abreast,

@@ -9,14 +9,14 @@ use fir::Carried;
 pub mod five;
 
 // A number for each lane.
-#[derive(Drop)]
+#[derive(Clone, Copy)]
 pub struct Pair {
     pub a: f64,
     pub b: f64,
 }
 
 // What is carried from tap to tap, for each lane.
-#[derive(Drop)]
+#[derive(Clone, Copy)]
 pub struct Abreast {
     pub a: Carried,
     pub b: Carried,

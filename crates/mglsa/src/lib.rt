@@ -9,7 +9,7 @@ use crate::pair::two_stages;
 // The filter's taps, at most eight rows, one after the other. With fewer than 64 coefficients the rows are shorter, and the rest is
 // not used.
 #[repr(C)]
-#[derive(Drop)]
+#[derive(Clone, Copy)]
 pub struct MelGeneralizedLogSpectrumApproximation {
     pub d: [f64; 512],
 }

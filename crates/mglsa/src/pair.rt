@@ -7,7 +7,7 @@ ghost use Rattle.mglsa.specs.Pair.{standing, Warped, both_of};
 
 // What is carried from tap to tap, of each row: the tap before as it is now, the tap here as it was, whose place the one before has taken,
 // and the sum.
-#[derive(Drop)]
+#[derive(Clone, Copy)]
 pub struct Both {
     pub before: f64,
     pub here: f64,

@@ -12,7 +12,7 @@ pub mod layout;
 // The filter's taps: those of the first part with the answers of its rows, six rows of taps of the second part, one after the
 // other, with the answers of its rows. With fewer than 64 coefficients the rows are shorter, and the rest is not used.
 #[repr(C)]
-#[derive(Drop)]
+#[derive(Clone, Copy)]
 pub struct MelLogSpectrumApproximation {
     pub d11: [f64; 6],
     pub d12: [f64; 6],
@@ -44,7 +44,7 @@ impl MelLogSpectrumApproximation {
 }
 
 // The sample as the rows change it, and the sum of what they come to.
-#[derive(Drop)]
+#[derive(Clone, Copy)]
 pub struct Sums {
     pub x: f64,
     pub out: f64,

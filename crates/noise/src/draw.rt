@@ -5,7 +5,7 @@ ghost use Rattle.noise.specs.Draw.{draw_of, value_of, try_of};
 use number::wrapping::{wrapping_add, wrapping_mul};
 
 // What a try takes from two draws: r1, r2, the sum s of their squares, and the state after them.
-#[derive(Drop)]
+#[derive(Clone, Copy)]
 pub struct Try {
     pub r1: f64,
     pub r2: f64,

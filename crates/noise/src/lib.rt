@@ -13,7 +13,7 @@ use crate::gather::{estimate, find_pairs, multiply, weigh};
 
 // The state of the noise: `next` of the draws, and 64 values, of which `used` are taken.
 #[repr(C)]
-#[derive(Drop)]
+#[derive(Clone, Copy)]
 pub struct Random {
     pub next: u64,
     pub used: usize,
@@ -21,14 +21,14 @@ pub struct Random {
 }
 
 // A filling: made, with `next` after it; or dry.
-#[derive(Drop)]
+#[derive(Clone, Copy)]
 pub enum Filling {
     Dry,
     Full(u64),
 }
 
 // A value taken, with `next` and `used` after it; or dry.
-#[derive(Drop)]
+#[derive(Clone, Copy)]
 pub enum Taken {
     Dry,
     Value(f64, u64, usize),

@@ -9,7 +9,7 @@ use crate::draw::{Try, attempt};
 use number::range::strictly_within;
 
 // The first accepted try, or dry.
-#[derive(Drop)]
+#[derive(Clone, Copy)]
 pub enum Found {
     Dry,
     Pair(Try),

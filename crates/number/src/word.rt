@@ -3,7 +3,7 @@ ghost use Rattle.std.specs.Prelude.{◌≡◌, ◌+◌, ◌*◌, ◌^◌, ◌<�
 ghost use Rattle.number.specs.Bytes.{bytes_of, number_of, room, word_at, put_at};
 
 // What stands at a place of a slice: fewer than eight bytes, or a number.
-#[derive(Drop)]
+#[derive(Clone, Copy)]
 pub enum Word {
     Short,
     Value(u64),

@@ -5,7 +5,7 @@ ghost use Rattle.pulse.specs.Train.{period_of, fresh_pulse, start_of, pulse_of, 
 // The pitch in samples, 0 where unvoiced; what has been counted since the last pulse; what the pitch gains with each sample; the
 // pitch that the frame ends at.
 #[repr(C)]
-#[derive(Drop)]
+#[derive(Clone, Copy)]
 pub struct Pulse {
     pub pitch: f64,
     pub counter: f64,
@@ -14,14 +14,14 @@ pub struct Pulse {
 }
 
 // The pitch of a frame: none, or a period in samples.
-#[derive(Drop)]
+#[derive(Clone, Copy)]
 pub enum Pitch {
     Unvoiced,
     Voiced(f64),
 }
 
 // A sample of the train, a pulse or the 0 between two, and the train after it.
-#[derive(Drop)]
+#[derive(Clone, Copy)]
 pub struct Pulsed {
     pub sample: f64,
     pub pulse: Pulse,

@@ -15,7 +15,7 @@ use voice::{Answered, Voice, usable};
 
 // What save answers: a number of the table, and how many bytes were written.
 #[repr(C)]
-#[derive(Drop)]
+#[derive(Clone, Copy)]
 pub struct Saved {
     pub number: u64,
     pub bytes: usize,

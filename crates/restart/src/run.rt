@@ -4,7 +4,7 @@ use number::wrapping::{wrapping_add, wrapping_mul};
 use voice::Voice;
 
 // The voice; how many samples it made, and a checksum of their bits; how many draws (or whole frames) and restarts there were.
-#[derive(Drop)]
+#[derive(Clone, Copy)]
 pub struct Run {
     pub voice: Voice,
     pub samples: u64,

@@ -8,7 +8,7 @@ ghost use Rattle.riff.specs.Reading.{extended_of, is_pcm, block_of, format_of, s
 
 // Where the reader is, and what it has found: the bytes of a sample (the format's block) and the samples a second, 0 before the format; the start and the length of the sound,
 // 0 before it.
-#[derive(Drop)]
+#[derive(Clone, Copy)]
 pub struct Cursor {
     pub at: usize,
     pub block: usize,
@@ -18,7 +18,7 @@ pub struct Cursor {
 }
 
 // What one chunk says: go on, all is found, or 20 not this kind of file, 21 a chunk runs past the end.
-#[derive(Drop)]
+#[derive(Clone, Copy)]
 pub enum Step {
     More(Cursor),
     End(Cursor),
@@ -26,14 +26,14 @@ pub enum Step {
 }
 
 // What the chunks say: where the samples are, or a refusal.
-#[derive(Drop)]
+#[derive(Clone, Copy)]
 pub enum Sound {
     Found(Cursor),
     Refused(u64),
 }
 
 // Where the file ends by its own size, or a refusal.
-#[derive(Drop)]
+#[derive(Clone, Copy)]
 enum Ends {
     At(usize),
     Refused(u64),
@@ -42,7 +42,7 @@ enum Ends {
 // What reading answers: a number, and the bits of a sample, the samples a second and how many they are, also where the buffer is short. 20: not this kind of file; 21: a
 // chunk runs past the end; 23: the buffer is short.
 #[repr(C)]
-#[derive(Drop)]
+#[derive(Clone, Copy)]
 pub struct Heard {
     pub number: u64,
     pub bits: u64,

@@ -6,14 +6,14 @@ ghost use Rattle.pcm.specs.Samples.{count};
 ghost use Rattle.riff.specs.Writing.{bytes_of_words, bytes_in, held_in, asked_of, header_of, sound_of, pad_of, file_of, refusal_of, refused, header_answer, part_answer, pad_answer, file_answer, Writes};
 
 // The bits of a sample.
-#[derive(Drop)]
+#[derive(Clone, Copy)]
 pub enum Width {
     Sixteen,
     TwentyFour,
 }
 
 // A width that was asked for by its bits.
-#[derive(Drop)]
+#[derive(Clone, Copy)]
 pub enum Asked {
     For(Width),
     Other,
@@ -22,7 +22,7 @@ pub enum Asked {
 // What writing answers: a number, the bytes written, and how many of their samples were held back; 0 and 0 where it is refused. 1: the rate is outside the limits;
 // 22: the file's size does not fit its field; 23: the buffer is short.
 #[repr(C)]
-#[derive(Drop)]
+#[derive(Clone, Copy)]
 pub struct Written {
     pub number: u64,
     pub bytes: usize,

@@ -12,7 +12,7 @@ pub(crate) fn guess(near: f64) -> u64
 }
 
 // What a square leaves of a number, or that it lies too far off.
-#[derive(Drop)]
+#[derive(Clone, Copy)]
 pub(crate) enum Rest {
     Far,
     Of(u64),

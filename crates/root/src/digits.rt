@@ -3,7 +3,7 @@ ghost use Rattle.std.specs.Prelude.{◌≡◌, ◌+◌, ◌*◌, ◌^◌, ◌<�
 ghost use Rattle.root.specs.Parts.{NearestTo};
 
 // A root rounded down, and what its square leaves of the number.
-#[derive(Drop)]
+#[derive(Clone, Copy)]
 struct Floor {
     root: u64,
     rest: u64,

@@ -21,7 +21,7 @@ const FILLING: usize = 64;
 // In the order of the rest records. Of the arrays the first nmcp or nlpf entries are in use, and one of the two filters: `zero` at stage 0,
 // else `nonzero`. What is not in use stays as it is.
 #[repr(C)]
-#[derive(Drop)]
+#[derive(Clone, Copy)]
 pub struct Voice {
     pub configuration: Configuration,
     pub meter: u64,
@@ -40,7 +40,7 @@ pub struct Voice {
 
 // What open and give answer: a number of the table, and the voice after the call.
 #[repr(C)]
-#[derive(Drop)]
+#[derive(Clone, Copy)]
 pub struct Answered {
     pub number: u64,
     pub voice: Voice,

@@ -23,7 +23,7 @@ const DRAW: u64 = 1;
 const METER: u64 = 3;
 
 // Whether calls were read to their end; the place in the text after them; the voice after them.
-#[derive(Drop)]
+#[derive(Clone, Copy)]
 struct Replayed {
     whole: bool,
     end: usize,

@@ -3,7 +3,7 @@ ghost use Rattle.std.specs.Prelude.{◌≡◌, ◌++◌, ◌≤◌, length, take
 ghost use Rattle.wave.specs.Wave.{last_or, outputs, swept, first_after, seconds_of, wave_of, made_by};
 
 // What is carried from entry to entry: what came into the first pass there, and what each pass made there.
-#[derive(Drop)]
+#[derive(Clone, Copy)]
 pub struct Wave {
     pub input: f64,
     pub first: f64,
@@ -17,14 +17,14 @@ pub struct Wave {
 }
 
 // The first entry after eight passes, and the wave at the second.
-#[derive(Drop)]
+#[derive(Clone, Copy)]
 pub struct Started {
     pub first: f64,
     pub wave: Wave,
 }
 
 // What the eighth pass made at the first of two entries, and the wave at the second.
-#[derive(Drop)]
+#[derive(Clone, Copy)]
 struct Two {
     eighth: f64,
     wave: Wave,
