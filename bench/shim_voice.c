@@ -1,4 +1,4 @@
-// The calls on a voice by pointers, as shim.c has the excitation's functions. The callers' side is src/shim.rs, and bindings/native.c.
+// The calls on a voice by pointers, as shim.c has the excitation's functions. The callers' side is src/shim.rs.
 #include "shim.h"
 
 typedef struct { double d11[6], d12[6], d21[384], d22[6]; } Zero;

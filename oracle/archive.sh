@@ -10,24 +10,35 @@ fail() {
 # The crates whose static libraries are linked. A script that needs fewer names them itself.
 archives=(exports export_mel export_pairs export_preparing export_filters export_voice export_sound)
 
-# The folder of the archives: EXPORTS_DIR, or where `rt staticlib` writes them.
+# The folder of the archives: EXPORTS_DIR, or one in which copies of those that `rt lib` wrote stand together.
 archive_folder() {
-    local folder=${EXPORTS_DIR:-$root/target/staticlib} name
+    local folder=${EXPORTS_DIR:-} name made
+    if [ -z "$folder" ]; then
+        folder=$root/target/archives
+        mkdir -p "$folder"
+        for name in "${archives[@]}"; do
+            made=$root/crates/$name/out/lib$name.a
+            [ -f "$made" ] || fail "no lib$name.a: run 'rt lib' in crates/$name, or set EXPORTS_DIR"
+            cmp -s "$made" "$folder/lib$name.a" || cp "$made" "$folder"
+        done
+    fi
     for name in "${archives[@]}"; do
-        [ -f "$folder/lib$name.a" ] || fail "no lib$name.a in $folder: run 'rt staticlib $name' in the repository, or set EXPORTS_DIR"
+        [ -f "$folder/lib$name.a" ] || fail "no lib$name.a in $folder"
     done
     (cd "$folder" && pwd -P)
 }
 
-# Whether the archives in folder $1 hold code of this machine's processor. `rt` writes x86-64 only.
+# Whether this machine's processor runs the archives in folder $1. `rt` writes x86-64 only.
 archive_is_native() {
     local machine
     command -v readelf >/dev/null || fail "readelf (binutils) is needed, to tell whose code the archives are"
     machine=$(LC_ALL=C readelf -h "$1/lib${archives[0]}.a" 2>/dev/null | sed -n 's/^ *Machine: *//p' | sort -u) || true
-    case $(uname -m):$machine in
-        x86_64:*X86-64 | aarch64:AArch64) true ;;
-        *) false ;;
-    esac
+    [[ $(uname -m):$machine == x86_64:*X86-64 ]]
+}
+
+# Ends the script where the processor does not run the archives in folder $1.
+need_native() {
+    archive_is_native "$1" || fail "the archives are x86-64 code and this processor is not: it is not served"
 }
 
 # cargo build of the package in folder $1 into folder $2, other words passed on, with no compiler

@@ -1,14 +1,11 @@
 # shellcheck shell=bash disable=SC2154 # oracle/run sets here and work
 # Sourced by oracle/run: how x86-64 code is built and run where the processor is another.
 
-# An emulator of x86-64: the one that is asked for, one on the path, or the one of the Rattle kit.
+# An emulator of x86-64: the one that is asked for, or one on the path.
 find_emulator() {
-    local kit=${RATTLE_HOME:-} found=${ORACLE_EMULATOR:-}
-    if [ -z "$kit" ] && command -v rt >/dev/null; then
-        kit=$(dirname "$(dirname "$(readlink -f "$(command -v rt)")")")
-    fi
-    [ -n "$found" ] || found=$(command -v qemu-x86_64) || found=$kit/on/$(uname -m)/toolchain/bin/qemu-x86_64
-    [ -x "$found" ] || fail "the archives are not for this processor, and there is no emulator at $found: set ORACLE_EMULATOR"
+    local found=${ORACLE_EMULATOR:-}
+    [ -n "$found" ] || found=$(command -v qemu-x86_64) || true
+    [ -x "$found" ] || fail "the archives are not for this processor, and there is no emulator ${found:-qemu-x86_64}: set ORACLE_EMULATOR"
     printf '%s\n' "$found"
 }
 
