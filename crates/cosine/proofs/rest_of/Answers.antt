@@ -7,7 +7,7 @@ use Rattle.cosine.proofs.rest_of.Goals as goal
 use Rattle.cosine.proofs.rest_of.Goals.{Start}
 
 held : (c : Start) → T (fits binary64 c.args.x)
-held c = subst T (sym c.well-formed.0.1) tt
+held c = subst T (sym c.well_formed.0.1) tt
 
 inside : (c : Start) → T (cos_inside c.args.x)
 inside c = subst T (sym c.requires) tt

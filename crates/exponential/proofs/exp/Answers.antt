@@ -5,5 +5,5 @@ use Rattle.exponential.proofs.exp.Goals as goal
 
 pub returns : goal.returns
 returns c =
-    let r = answered c.args.x c.joined.result (subst T (sym c.well-formed.0.1) tt) (c.joined.ensures ∙ c.split-p.ensures) in
+    let r = answered c.args.x c.joined.result (subst T (sym c.well_formed.0.1) tt) (c.joined.ensures ∙ c.split-p.ensures) in
     record { value = r.0; exp_answer = r.1 }

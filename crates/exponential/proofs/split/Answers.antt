@@ -9,7 +9,7 @@ use Rattle.exponential.proofs.split.Goals as goal
 use Rattle.exponential.proofs.split.Goals.{After-nearest, After-units-u, Else-x-3, Start}
 
 held : (c : Start) → T (fits binary64 c.args.x)
-held c = subst T (sym c.well-formed.0.1) tt
+held c = subst T (sym c.well_formed.0.1) tt
 
 pub returns-then-x : goal.returns-then-x
 returns-then-x c = joined_nan c.args.x c.if-x.true ∙ at_nan c.args.x c.if-x.true

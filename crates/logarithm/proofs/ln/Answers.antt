@@ -13,7 +13,7 @@ use Rattle.logarithm.proofs.ln.Goals as goal
 use Rattle.logarithm.proofs.ln.Goals.{Start, Then-x-2}
 
 held : (c : Start) → T (fits binary64 c.args.x)
-held c = subst T (sym c.well-formed.0.1) tt
+held c = subst T (sym c.well_formed.0.1) tt
 
 -- where both tests pass it is inside
 within : (c : Then-x-2) → ln_inside c.args.x ≡ true

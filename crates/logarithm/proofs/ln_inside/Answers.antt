@@ -13,7 +13,7 @@ use Rattle.logarithm.proofs.ln_inside.Goals as goal
 use Rattle.logarithm.proofs.ln_inside.Goals.{Start}
 
 held : (c : Start) → T (fits binary64 c.args.x)
-held c = subst T (sym c.well-formed.0.1) tt
+held c = subst T (sym c.well_formed.0.1) tt
 
 pub float_to_bits-x : goal.float_to_bits-x
 float_to_bits-x c = not_nan c.args.x (normal_above c.args.x c.requires)

@@ -23,10 +23,10 @@ float_from_bits-most-2 c = no_nan _ (omega arith)
 
 pub returns-then-d : goal.returns-then-d
 returns-then-d c e =
-    let held : T (fits binary64 c.args.d) = subst T (sym c.well-formed.0.1) tt in
+    let held : T (fits binary64 c.args.d) = subst T (sym c.well_formed.0.1) tt in
     lost_below c.args.p c.args.q (omega arith) (omega arith) _ refl c.args.d held (sym c.lost_in.ensures ∙ e)
 
 pub returns : goal.returns
 returns c e =
-    let held : T (fits binary64 c.args.d) = subst T (sym c.well-formed.0.1) tt in
+    let held : T (fits binary64 c.args.d) = subst T (sym c.well_formed.0.1) tt in
     lost_above c.args.p c.args.q (omega arith) (omega arith) _ refl c.args.d held (sym c.lost_in-2.ensures ∙ e)

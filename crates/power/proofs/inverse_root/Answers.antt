@@ -16,7 +16,7 @@ use Rattle.power.proofs.inverse_root.Goals.{Else-a, Else-not-inside, Start}
 
 -- binary64 holds the argument
 held : (c : Start) → T (fits binary64 c.args.a)
-held c = subst T (sym c.well-formed.0.1) tt
+held c = subst T (sym c.well_formed.0.1) tt
 
 -- past the first test
 arguments_inside : (c : Else-not-inside) → power_inside c.args.a c.args.s ≡ true

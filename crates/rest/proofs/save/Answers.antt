@@ -54,4 +54,4 @@ overflow_mul-result c = let most = few (goal.at.overflow_mul-result c).After-cou
 pub returns : goal.returns
 returns c =
     let room : 16 * c.count_of-count.result ≤ length c.args.out.now = omega (arith, c.if-out-count.false) in
-    saves_done c.args.voice c.args.out.now c.count_of-count.result _ _ c.count_of-count.ensures (lent_slots c.count_of-count.result (few (goal.at.returns c).After-count_of-count)) (held_long c.args.voice _ c.well-formed.0) (usable_here (goal.at.returns c).Else-not-usable) room c.write_records.ensures
+    saves_done c.args.voice c.args.out.now c.count_of-count.result _ _ c.count_of-count.ensures (lent_slots c.count_of-count.result (few (goal.at.returns c).After-count_of-count)) (held_long c.args.voice _ c.well_formed.0) (usable_here (goal.at.returns c).Else-not-usable) room c.write_records.ensures

@@ -13,4 +13,4 @@ pub returns : goal.returns
 returns c =
     c.encode.ensures
     ∙ ap (λ (vs : List ℕ). sets c.args.out.now 0 (encoded (numbered 0 vs))) c.gather.ensures
-    ∙ records_written c.args.voice c.args.slots.now c.args.out.now (held_long c.args.voice _ c.well-formed.0) c.requires.0 c.requires.1 c.requires.2
+    ∙ records_written c.args.voice c.args.slots.now c.args.out.now (held_long c.args.voice _ c.well_formed.0) c.requires.0 c.requires.1 c.requires.2

@@ -6,7 +6,7 @@ use Rattle.root.proofs.sqrt_near.Goals as goal
 use Rattle.root.proofs.sqrt_near.Goals.{Start, Then-x-2}
 
 held : (c : Start) → T (fits binary64 c.args.x)
-held c = subst T (sym c.well-formed.0.1) tt
+held c = subst T (sym c.well_formed.0.1) tt
 
 -- where both tests pass it is a number above zero
 positive : (c : Then-x-2) → Above c.args.x

@@ -32,7 +32,7 @@ sized c =
     (long, room, omega (arith, made, long))
 
 pub overflow_add-i : goal.overflow_add-i
-overflow_add-i c = omega (arith, (sized c).1, (sized c).2, c.loop-i.invariant.0, c.loop-i.invariant.3, c.well-formed.1.1.1.1.0)
+overflow_add-i c = omega (arith, (sized c).1, (sized c).2, c.loop-i.invariant.0, c.loop-i.invariant.3, c.well_formed.1.1.1.1.0)
 
 pub loop-i-smaller : goal.loop-i-smaller
 loop-i-smaller c =

@@ -24,10 +24,10 @@ within c =
     omega (arith, made, c.requires.2)
 
 pub overflow_add-end : goal.overflow_add-end
-overflow_add-end c = omega (arith, within c, c.well-formed.1.1.1.1.0)
+overflow_add-end c = omega (arith, within c, c.well_formed.1.1.1.1.0)
 
 pub offset_bounds-window-made : goal.offset_bounds-window-made
-offset_bounds-window-made c = omega (arith, within c, c.well-formed.1.1.1.1.0)
+offset_bounds-window-made c = omega (arith, within c, c.well_formed.1.1.1.1.0)
 
 pub slice_bounds-copy-end-2 : goal.slice_bounds-copy-end-2
 slice_bounds-copy-end-2 c = omega (arith, within (goal.at.slice_bounds-copy-end-2 c).After-out-1)

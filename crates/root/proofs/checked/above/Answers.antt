@@ -2,7 +2,7 @@
 use Rattle.std.proofs.Common.{◌≡◌, ℕ, ◌+◌, ◌*◌, ◌<◌, ◌≤◌, ◌⊎◌, inl, inr, ⊎_elim, arith, rules}
 use Rattle.root.proofs.Guess.{above_is}
 use Rattle.root.proofs.checked.above.Goals as goal
-use Rattle.root.proofs.checked.above.Goals.{Joined-rest-g, Joined-rest-g-2}
+use Rattle.root.proofs.checked.above.Goals.{Joined-rest-g, Joined-rest-g-2, then-rest-g, else-rest-g, then-rest-g-2, else-rest-g-2}
 
 -- which way each test went
 at_most_one : {P Q : Type 0} (a : ℕ) → (P × (a ≡ 1)) ⊎ (Q × (a ≡ 0)) → a ≤ 1
@@ -10,10 +10,10 @@ at_most_one a (inl p) = omega arith
 at_most_one a (inr p) = omega arith
 
 first : (c : Joined-rest-g) → ((8 * c.args.g + 8 ≤ c.args.rest) × (c.if-rest-g.second ≡ 1)) ⊎ ((c.args.rest < 8 * c.args.g + 8) × (c.if-rest-g.second ≡ 0))
-first c = ⊎_elim (λ w. inl (w.0.taken, w.1)) (λ w. inr (w.0.left, w.1)) c.if-rest-g.branch
+first c = elim c.if-rest-g.branch [ then-rest-g w ↦ inl (w.if-rest-g.true, w.second-is) | else-rest-g w ↦ inr (w.if-rest-g.false, w.second-is) ]
 
 then : (c : Joined-rest-g-2) → ((16 * c.args.g + 24 ≤ c.args.rest) × (c.if-rest-g-2.third ≡ 1)) ⊎ ((c.args.rest < 16 * c.args.g + 24) × (c.if-rest-g-2.third ≡ 0))
-then c = ⊎_elim (λ w. inl (w.0.taken, w.1)) (λ w. inr (w.0.left, w.1)) c.if-rest-g-2.branch
+then c = elim c.if-rest-g-2.branch [ then-rest-g-2 w ↦ inl (w.if-rest-g-2.true, w.third-is) | else-rest-g-2 w ↦ inr (w.if-rest-g-2.false, w.third-is) ]
 
 pub overflow_add-result-2 : goal.overflow_add-result-2
 overflow_add-result-2 c = let h = at_most_one c.if-rest-g.second (first (goal.at.overflow_add-result-2 c).Joined-rest-g) in omega arith

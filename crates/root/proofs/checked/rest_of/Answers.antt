@@ -14,4 +14,4 @@ overflow_mul-l c = omega (arith, product27 (c.args.q % 134217728) (c.args.q % 13
 
 pub returns : goal.returns
 returns c small =
-    left c.args.m c.args.q c.wrapping_sub_u64-first.result c.wrapping_sub_u64-second.result c.wrapping_sub_u64.result (omega arith) c.wrapping_sub_u64-first.ensures (omega arith) c.wrapping_sub_u64-second.ensures (omega arith) c.wrapping_sub_u64.ensures small
+    left c.args.m c.args.q c.wrapping_sub_u64-first.result c.wrapping_sub_u64-second.result c.wrapping_sub_u64.result (omega arith) c.wrapping_sub_u64-first.ensures.value (omega arith) c.wrapping_sub_u64-second.ensures.value (omega arith) c.wrapping_sub_u64.ensures.value small

@@ -2,7 +2,7 @@
 use Rattle.std.proofs.Common.{ℕ, ◌+◌, ◌-◌, ◌*◌, ◌%◌, ◌^◌, ◌<◌, sym, subst₂, ⊎_elim, arith, rules}
 use Rattle.root.proofs.Turns.{Turned, first, room, one_digit, zero_digit, last}
 use Rattle.root.proofs.digits.floor_root.Goals as goal
-use Rattle.root.proofs.digits.floor_root.Goals.{In-loop-i}
+use Rattle.root.proofs.digits.floor_root.Goals.{In-loop-i, then-next-trial, else-next-trial}
 
 pub loop-i-init : goal.loop-i-init
 loop-i-init c = first c.args.m c.requires
@@ -34,10 +34,11 @@ overflow_mul-root-else-next-trial c = let h = small (goal.at.overflow_mul-root-e
 
 pub loop-i-preserved : goal.loop-i-preserved
 loop-i-preserved c =
-    ⊎_elim
-    (λ w. subst₂ (λ (a b : ℕ). Turned c.args.m ((c.loop-i.digits * 2 ^ 2) % 2 ^ 64) a b (c.loop-i.i + 1)) (sym w.1) (sym w.2) (one_digit c.args.m c.loop-i.digits c.loop-i.root c.loop-i.rest c.loop-i.i c.loop-i.invariant c.loop-i-test.true w.0.taken))
-    (λ w. subst₂ (λ (a b : ℕ). Turned c.args.m ((c.loop-i.digits * 2 ^ 2) % 2 ^ 64) a b (c.loop-i.i + 1)) (sym w.1) (sym w.2) (zero_digit c.args.m c.loop-i.digits c.loop-i.root c.loop-i.rest c.loop-i.i c.loop-i.invariant c.loop-i-test.true w.0.left))
-    c.if-next-trial.branch
+    let turned = λ (a b : ℕ). Turned c.args.m ((c.loop-i.digits * 2 ^ 2) % 2 ^ 64) a b (c.loop-i.i + 1) in
+    elim c.if-next-trial.branch [
+      then-next-trial w ↦ subst₂ turned (sym w.root-is) (sym w.rest-is) (one_digit c.args.m c.loop-i.digits c.loop-i.root c.loop-i.rest c.loop-i.i c.loop-i.invariant c.loop-i-test.true w.if-next-trial.true)
+      | else-next-trial w ↦ subst₂ turned (sym w.root-is) (sym w.rest-is) (zero_digit c.args.m c.loop-i.digits c.loop-i.root c.loop-i.rest c.loop-i.i c.loop-i.invariant c.loop-i-test.true w.if-next-trial.false)
+    ]
 
 pub returns : goal.returns
 returns c = last c.args.m c.loop-i.digits c.loop-i.root c.loop-i.rest c.loop-i.i c.loop-i.invariant c.loop-i-test.false

@@ -7,7 +7,7 @@ use Rattle.slots.proofs.gather.gather.Goals as goal
 use Rattle.slots.proofs.gather.gather.Goals.{Start}
 
 long : (c : Start) → Long c.args.voice
-long c = held_long c.args.voice _ c.well-formed.0
+long c = held_long c.args.voice _ c.well_formed.0
 
 small : (c : Start) → Sizes c.args.voice.configuration
 small c = sizes c.args.voice.configuration c.requires.0

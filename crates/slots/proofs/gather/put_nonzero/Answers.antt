@@ -8,7 +8,7 @@ use Rattle.slots.proofs.gather.put_nonzero.Goals as goal
 use Rattle.slots.proofs.gather.put_nonzero.Goals.{Start}
 
 long : (c : Start) → length c.args.voice.nonzero.d ≡ 512
-long c = (held_long c.args.voice _ c.well-formed.0).d
+long c = (held_long c.args.voice _ c.well_formed.0).d
 
 pub overflow_mul-rows : goal.overflow_mul-rows
 overflow_mul-rows c =

@@ -7,7 +7,7 @@ use Rattle.slots.proofs.gather.put_spectrum.Goals as goal
 use Rattle.slots.proofs.gather.put_spectrum.Goals.{Start}
 
 long : (c : Start) → Long c.args.voice
-long c = held_long c.args.voice _ c.well-formed.0
+long c = held_long c.args.voice _ c.well_formed.0
 
 pub slice_bounds-put_floats-end : goal.slice_bounds-put_floats-end
 slice_bounds-put_floats-end c =

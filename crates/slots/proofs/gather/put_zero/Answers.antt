@@ -7,7 +7,7 @@ use Rattle.slots.proofs.gather.put_zero.Goals as goal
 use Rattle.slots.proofs.gather.put_zero.Goals.{Start}
 
 long : (c : Start) → Long c.args.voice
-long c = held_long c.args.voice _ c.well-formed.0
+long c = held_long c.args.voice _ c.well_formed.0
 
 pub overflow_mul-rows : goal.overflow_mul-rows
 overflow_mul-rows c =
