@@ -1,4 +1,6 @@
 // What a voice is opened with, and document 01's limits.
+#![tactic(auto)]
+
 ghost use Rattle.std.specs.Prelude.{◌≡◌};
 ghost use Rattle.configuration.specs.Limits.{numbers_kept, floats_kept, limits_kept};
 

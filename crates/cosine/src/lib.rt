@@ -1,4 +1,6 @@
 // The cosine of a float up to 2^20 in size, within 2^-44. All in whole numbers, in units of 2^-59: 1 is 2^59 units.
+#![tactic(auto)]
+
 ghost use Rattle.std.specs.Prelude.{◌≡◌, ◌*◌, ◌≤◌, true};
 ghost use Rattle.elementary.specs.Exact.{cos_inside, CosAnswer};
 ghost use Rattle.cosine.specs.Cos.{turn, units_of, rest_of, cos_of};

@@ -1,4 +1,6 @@
 // The delay line: what is added to its taps, and what goes out.
+#![tactic(auto)]
+
 ghost use Rattle.std.specs.Prelude.{◌≡◌, ◌<◌, min, length};
 ghost use Rattle.number.specs.F64.{◌‼◌};
 ghost use Rattle.delay.specs.Line.{with_noise, with_pulse, shifted};

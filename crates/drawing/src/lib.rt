@@ -1,4 +1,6 @@
 // Drawing samples: the excitation of as many as can be had, and the filter over them, both in place.
+#![tactic(auto)]
+
 pub mod sound;
 
 ghost use Rattle.std.specs.Prelude.{◌≡◌, min};

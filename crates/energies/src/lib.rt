@@ -1,5 +1,7 @@
 // The energies of two lists of coefficients at once. Each sum of an impulse response waits for itself only, so the two responses grow side
 // by side; and it ends where no later term can change it.
+#![tactic(auto)]
+
 ghost use Rattle.std.specs.Prelude.{◌≡◌, ◌+◌, ◌-◌, ◌≤◌, ◌<◌, length};
 ghost use Rattle.number.specs.F64.{0f};
 ghost use Rattle.vectors.specs.Vectors.{sum_from, energy_of};

@@ -1,4 +1,6 @@
 // The excitation: pulses and noise, mixed on a delay line.
+#![tactic(auto)]
+
 ghost use Rattle.std.specs.Prelude.{◌≡◌, length};
 ghost use Rattle.number.specs.Lists.{over};
 ghost use Rattle.noise.specs.Draw.{tries};

@@ -1,4 +1,6 @@
 // e to the power of a float.
+#![tactic(auto)]
+
 ghost use Rattle.std.specs.Prelude.{◌≡◌, ◌+◌, ◌-◌, ◌*◌, ◌^◌, ◌≤◌};
 ghost use Rattle.elementary.specs.Exact.{ExpAnswer};
 ghost use Rattle.number.specs.F64.{◌⊗◌};

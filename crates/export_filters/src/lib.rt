@@ -1,4 +1,6 @@
 // What C and Rust reach of the filters, under C names. Each function is the stretch that it calls, behind a test of its lengths.
+#![tactic(auto)]
+
 ghost use Rattle.std.specs.Prelude.{◌≡◌, length};
 ghost use Rattle.history.specs.Through.{passage, through};
 ghost use Rattle.mlsa.specs.Mlsa.{filter};

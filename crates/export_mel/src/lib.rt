@@ -1,4 +1,6 @@
 // What C and Rust reach of mel-cepstra, under C names. Each function is the one that it calls, behind a test of its lengths.
+#![tactic(auto)]
+
 ghost use Rattle.std.specs.Prelude.{◌≡◌, [], ◌∷◌, ◌&&◌, eqb, length};
 ghost use Rattle.elementary.specs.Outcome.{inside};
 ghost use Rattle.cepstrum.specs.Cepstrum.{mc2b_of, b2mc_of, freqt_of, c2ir_of, b2en_of};

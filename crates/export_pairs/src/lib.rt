@@ -1,5 +1,7 @@
 // What C and Rust reach of generalized cepstra and line spectral pairs, under C names. Each function is the one that it calls, behind a
 // test of its lengths.
+#![tactic(auto)]
+
 ghost use Rattle.std.specs.Prelude.{◌≡◌, [], ◌∷◌, ◌&&◌, ◌+◌, leb, eqb, length};
 ghost use Rattle.elementary.specs.Outcome.{inside, ◌then◌};
 ghost use Rattle.generalized.specs.Generalized.{gnorm_of, ignorm_of, gc2gc_of};

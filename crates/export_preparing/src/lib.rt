@@ -1,4 +1,6 @@
 // What C and Rust reach of preparing a frame, under C names. Each function is the one that it calls, behind a test of its lengths.
+#![tactic(auto)]
+
 ghost use Rattle.std.specs.Prelude.{◌≡◌, cond, ◌&&◌, length};
 ghost use Rattle.prepare.specs.Preparing.{prepared_mcp, prepared_lsp, start_after, targets_after};
 ghost use Rattle.limits.specs.Limits.{status, entries_of, stage_of};

@@ -1,4 +1,6 @@
 // What C and Rust reach of sound files, under C names: the calls of `riff`, with the width as its bits.
+#![tactic(auto)]
+
 ghost use Rattle.std.specs.Prelude.{length, ◌*◌};
 ghost use Rattle.riff.specs.Writing.{bytes_in, asked_of, header_answer, part_answer, pad_answer, file_answer, header_of, sound_of, pad_of, file_of, Writes};
 ghost use Rattle.riff.specs.Reading.{chunks_of, Hears};

@@ -1,4 +1,6 @@
 // What C and Rust reach of the voice, under C names. Each function is the call of its name.
+#![tactic(auto)]
+
 ghost use Rattle.refusing.specs.Refusal.{frame};
 ghost use Rattle.voice.specs.Open.{Opens};
 ghost use Rattle.giving.specs.Give.{Gives};

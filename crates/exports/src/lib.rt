@@ -1,4 +1,6 @@
 // What C and Rust reach of the crates below, under C names. Each function is the one that it calls.
+#![tactic(auto)]
+
 ghost use Rattle.std.specs.Prelude.{◌≡◌, ◌+◌, ◌*◌, ◌%◌, ◌^◌, length};
 ghost use Rattle.number.specs.Bits.{bits_of, float_of};
 ghost use Rattle.root.specs.Root.{root_of};

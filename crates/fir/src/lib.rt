@@ -1,4 +1,6 @@
 // The steps of the filter `fir` of mlsa.rs: the first two taps, four taps at once, one tap. `lanes::five` takes five rows through all of them.
+#![tactic(auto)]
+
 ghost use Rattle.std.specs.Prelude.{◌≡◌, [], ◌∷◌, ◌+◌, ◌<◌, length};
 ghost use Rattle.fir.specs.Fir.{start, group, tap};
 

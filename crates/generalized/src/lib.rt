@@ -1,4 +1,6 @@
 // The generalized cepstrum of a stage s from 1 to 8, for which gamma is -1 / s: with and without its gain normalised.
+#![tactic(auto)]
+
 ghost use Rattle.std.specs.Prelude.{◌≡◌, ◌-◌, ◌≤◌, ◌<◌, length};
 ghost use Rattle.elementary.specs.Outcome.{prepared_of, or_else};
 ghost use Rattle.generalized.specs.Generalized.{gamma_of, gnorm_of, ignormed_by, ignorm_of, gc2gc_entry, gc2gc_of, mgc2mgc_of};

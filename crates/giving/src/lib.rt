@@ -1,4 +1,6 @@
 // Giving a frame: its refusals, and the voice that an accepted one leads to.
+#![tactic(auto)]
+
 pub mod begin;
 
 ghost use Rattle.std.specs.Prelude.{◌≡◌, ◌≤◌};

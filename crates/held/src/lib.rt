@@ -1,1 +1,2 @@
 // Voices that hold f64s alone: definitions and laws alone, and no code.
+#![tactic(auto)]

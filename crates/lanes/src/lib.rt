@@ -1,5 +1,7 @@
 // Several filters `fir` at once, each doing what `fir` does. Here two on rows of taps that stand side by side: entry 2 * i + k is tap i of row k. With
 // four lanes in one list x86-64 has too few registers for what is carried; `five` takes two such pairs one after the other.
+#![tactic(auto)]
+
 ghost use Rattle.std.specs.Prelude.{◌≡◌, ℕ, ◌+◌, ◌*◌, ◌≤◌, ◌<◌, length};
 ghost use Rattle.fir.specs.Fir.{start, group, tap};
 ghost use Rattle.lanes.specs.Lane.{lane, side, pair_at, put_pair, taps_of};

@@ -1,4 +1,6 @@
 // Line spectral pairs to linear prediction, by two chains of sections.
+#![tactic(auto)]
+
 ghost use Rattle.std.specs.Prelude.{◌≡◌, ◌+◌, ◌/◌, ◌≤◌, length, drop, replicate};
 ghost use Rattle.number.specs.F64.{0f, 1f};
 ghost use Rattle.elementary.specs.Outcome.{outside, inside, prepared_of, or_else};

@@ -1,4 +1,6 @@
 // The tests of the functions under C names, and the number of an answer.
+#![tactic(auto)]
+
 ghost use Rattle.std.specs.Prelude.{◌≡◌};
 ghost use Rattle.limits.specs.Limits.{entries_of, stage_of, generalized_of, number_for};
 

@@ -1,5 +1,7 @@
 // The natural logarithm, within 2^-48 of the exact one of document 01. The error is counted in
 // factors of 1 + 2^-53, one for each rounding; 31 of them stay within 2^-48.
+#![tactic(auto)]
+
 ghost use Rattle.std.specs.Prelude.{◌≡◌, ◌≤◌, ◌<◌, T};
 ghost use Rattle.elementary.specs.Exact.{ln_inside, LnAnswer};
 ghost use Rattle.elementary.specs.declared.answer.Answer.TheVariants.{Inside};

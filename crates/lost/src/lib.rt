@@ -1,4 +1,6 @@
 // When a sum stays as it is, whatever terms up to a size are added to it.
+#![tactic(auto)]
+
 ghost use Rattle.std.specs.Prelude.{◌≡◌, true, ◌≤◌, Float};
 ghost use Rattle.number.specs.F64.{◌⊕◌, ◌⊗◌};
 ghost use Rattle.lost.specs.Lost.{pattern_of, UpTo, lost_in};

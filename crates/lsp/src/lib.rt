@@ -1,4 +1,6 @@
 // Line spectral pairs: to the mel-generalized cepstrum, by way of linear prediction (`lattice`), and their energy.
+#![tactic(auto)]
+
 ghost use Rattle.std.specs.Prelude.{◌≡◌, ◌+◌, ◌≤◌, length};
 ghost use Rattle.elementary.specs.Outcome.{prepared_of, or_else, answer_of};
 ghost use Rattle.lsp.specs.Lsp.{gain_of, lsp2mgc_of, lsp2en_of};

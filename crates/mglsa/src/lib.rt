@@ -1,4 +1,6 @@
 // The filter of the stages from 1 on, mglsa.rs: a row of taps for each stage.
+#![tactic(auto)]
+
 mod pair;
 
 ghost use Rattle.std.specs.Prelude.{◌≡◌, ◌+◌, ◌*◌, ◌≤◌, ◌<◌, length};

@@ -1,4 +1,6 @@
 // The filter of stage 0, mlsa.rs: two parts of five rows each, weighed by the constants of a Padé approximation.
+#![tactic(auto)]
+
 ghost use Rattle.std.specs.Prelude.{◌≡◌, List, Float, ◌*◌, ◌≤◌, ◌<◌, length};
 ghost use Rattle.number.specs.F64.{0f};
 ghost use Rattle.mlsa.specs.Mlsa.{part, weighed, first_row, passed, ended, df1_of, df2_of, filter, df_of, fresh_filter};

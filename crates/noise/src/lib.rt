@@ -1,4 +1,6 @@
 // The noise: pairs of normally distributed values, made from draws of a linear congruence by the polar method.
+#![tactic(auto)]
+
 ghost use Rattle.std.specs.Prelude.{◌≡◌, length};
 ghost use Rattle.noise.specs.Draw.{tries};
 ghost use Rattle.noise.specs.Noise.{fresh_random, filling_of, filled_of, noise_of, taken_of};

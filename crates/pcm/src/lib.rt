@@ -1,4 +1,6 @@
 // Samples as whole numbers of 16 or 24 bits: rounded to the nearest, a tie to the even one, held to the width, a NaN as 0; and how many were held back.
+#![tactic(auto)]
+
 ghost use Rattle.std.specs.Prelude.{◌≡◌, cond, ℕ, suc, ◌*◌, ◌%◌, ◌^◌, ◌≤◌, length};
 ghost use Rattle.std.specs.Float.Ieee.{lt, is_nan};
 ghost use Rattle.number.specs.F64.{0f};

@@ -1,4 +1,6 @@
 // The postfilters, which sharpen a spectrum and keep its energy.
+#![tactic(auto)]
+
 ghost use Rattle.std.specs.Prelude.{◌≡◌};
 ghost use Rattle.postfilter.specs.Mel.{acts};
 

@@ -1,4 +1,6 @@
 // Powers of a float with the exponents -s and -1 / s, for a base from 2^-120 to 2^120 and an s from 1 to 8.
+#![tactic(auto)]
+
 ghost use Rattle.std.specs.Prelude.{◌≡◌, ◌+◌, ◌*◌, ◌/◌, ◌^◌, ◌<◌, ◌≤◌};
 ghost use Rattle.std.specs.Float.{binary64};
 ghost use Rattle.std.specs.Float.Ieee.{lt, of_bits};

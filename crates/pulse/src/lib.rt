@@ -1,4 +1,6 @@
 // The pulse train: its pitch, and a counter that a pulse reduces by the pitch.
+#![tactic(auto)]
+
 ghost use Rattle.std.specs.Prelude.{◌≡◌, ◌≤◌, ◌^◌};
 ghost use Rattle.pulse.specs.Train.{period_of, fresh_pulse, start_of, pulse_of, end_of};
 

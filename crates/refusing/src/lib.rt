@@ -1,4 +1,6 @@
 // What give refuses before it prepares a frame.
+#![tactic(auto)]
+
 pub mod entries;
 
 ghost use Rattle.std.specs.Prelude.{◌≡◌};

@@ -1,4 +1,6 @@
 // Save and restore: a voice as rest records, and back.
+#![tactic(auto)]
+
 ghost use Rattle.std.specs.Prelude.{true, ◌≡◌, ◌*◌, ◌≤◌, length};
 ghost use Rattle.number.specs.Lists.{over};
 ghost use Rattle.configuration.specs.Limits.{limits_kept};

@@ -56,6 +56,7 @@ root_most n r h a = go (dec_le r (2 ^ 53))
     go (no l) = absurd (clash r (lt_of_not-le l) a.low)
       where
         clash : (r : ℕ) → 2 ^ 53 < r → r * r < n + r → ⊥
+        clash zero k b = elim k [ ]
         clash (suc r) k b = let x : 9007199254740992 * 9007199254740992 ≤ r * r = mul-le-mul {n₁ = 9007199254740992} {m₁ = 9007199254740992} {n₂ = r} {m₂ = r} (omega arith) (omega arith) in omega arith
 
 -- ---- the definition's own parts are those

@@ -47,6 +47,7 @@ nearest_is n p h = pick_nearest n (floor_root 53 n) (ltb (floor_root 53 n) (n - 
 
 -- two numbers that are nearest to one root are one number
 not_above : (n r s : ℕ) → NearestTo n r → NearestTo n s → r < s → ⊥
+not_above n r zero a b h = elim h [ ]
 not_above n r (suc t) a b h = let x : r * r ≤ t * t = mul-le-mul (le_of_suc-le-suc h) (le_of_suc-le-suc h) in omega (arith, a.high, b.low)
 
 -- where neither is less they are one

@@ -1,4 +1,6 @@
 // The square root of IEEE 754, correctly rounded, on the bit pattern in whole numbers.
+#![tactic(auto)]
+
 ghost use Rattle.std.specs.Prelude.{◌≡◌, ◌<◌, ◌≤◌};
 ghost use Rattle.root.specs.Root.{root_of};
 ghost use Rattle.root.specs.Root.{root_of_units};

@@ -1,4 +1,6 @@
 // A voice as the values of its slots, in the order of the rest records.
+#![tactic(auto)]
+
 pub mod gather;
 pub mod places;
 

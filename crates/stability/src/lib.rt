@@ -1,4 +1,6 @@
 // The stability of line spectral pairs: gaps between neighbours that are too small are widened.
+#![tactic(auto)]
+
 ghost use Rattle.std.specs.Prelude.{◌≡◌, ◌≤◌, length};
 ghost use Rattle.stability.specs.Stability.{stable_of};
 

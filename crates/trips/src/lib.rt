@@ -1,1 +1,2 @@
 // A voice and its slots, there and back: laws alone, and no code.
+#![tactic(auto)]

@@ -1,4 +1,6 @@
 // Slices of floats, whole and from an index on.
+#![tactic(auto)]
+
 ghost use Rattle.std.specs.Prelude.{◌≡◌, length};
 ghost use Rattle.vectors.specs.Vectors.{times_from, over_from, plus, energy_of};
 

@@ -1,4 +1,6 @@
 // The voice: its configuration and all that a sample goes on from.
+#![tactic(auto)]
+
 pub mod answers;
 
 ghost use Rattle.std.specs.Prelude.{◌≡◌};

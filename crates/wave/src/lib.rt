@@ -1,4 +1,6 @@
 // Eight passes of freqt in one sweep over the array: at each entry they run as a wave, each on what the one before it has just made.
+#![tactic(auto)]
+
 ghost use Rattle.std.specs.Prelude.{◌≡◌, ◌++◌, ◌≤◌, length, take, drop};
 ghost use Rattle.wave.specs.Wave.{last_or, outputs, swept, first_after, seconds_of, wave_of, made_by};
 

@@ -1,4 +1,6 @@
 // A whole frame: given, and drawn to its end.
+#![tactic(auto)]
+
 ghost use Rattle.std.specs.Prelude.{◌≡◌};
 ghost use Rattle.refusing.specs.Refusal.{frame};
 ghost use Rattle.whole.specs.Whole.{short_of, Renders};

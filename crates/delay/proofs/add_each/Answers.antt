@@ -1,0 +1,21 @@
+-- `add_each` meets its contract: what the rest of the turns makes of the line is what all of them make. Assumes nothing.
+use mathlib.Core.Path.{◌≡◌, refl, sym, ◌∙◌}
+use mathlib.Core.List.{◌++◌}
+use Prim.Native.Nat.{◌-◌, ◌≤◌, min}
+use native.Mathlib.Omega.{arith}
+use lib.ListN.{length, take, drop, length-set}
+use Rattle.delay.specs.Line.{with_pulse}
+use Rattle.delay.proofs.LineLaws.{pulse_turn, pulse_end}
+use borrow.Author.Rules.{rules}
+use Rattle.delay.proofs.add_each.Goals as goal
+
+pub loop-k-init : goal.loop-k-init
+loop-k-init c = (c.least-n.ensures, omega arith, refl, refl)
+
+pub loop-k-preserved : goal.loop-k-preserved
+loop-k-preserved c =
+    (c.loop-k.invariant.0, omega arith, length-set c.loop-k.line c.loop-k.k _ ∙ c.loop-k.invariant.2, pulse_turn c.args.c c.args.lpf.now c.loop-k.line c.loop-k.k (omega arith) (omega arith) ∙ c.loop-k.invariant.3)
+
+pub returns : goal.returns
+returns c =
+    sym (pulse_end c.args.c c.args.lpf.now c.loop-k.line c.loop-k.k (omega arith)) ∙ c.loop-k.invariant.3

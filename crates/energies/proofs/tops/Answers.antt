@@ -1,0 +1,23 @@
+-- `tops` meets its contract: from `left` on every place bounds what comes after it. Assumes nothing.
+use mathlib.Core.Path.{◌≡◌, refl}
+use Prim.Native.Nat.{◌+◌, ◌-◌, ◌≤◌}
+use native.Mathlib.Omega.{arith}
+use lib.ListN.{length, length-set}
+use Rattle.energies.proofs.TopLaws.{TopsFrom, tops_none, tops_all, tops_more}
+use borrow.Author.Rules.{rules}
+use Rattle.energies.proofs.tops.Goals as goal
+
+pub loop-left-init : goal.loop-left-init
+loop-left-init c = (omega arith, refl, tops_none _ _ _)
+
+pub loop-left-preserved : goal.loop-left-preserved
+loop-left-preserved c =
+    let k = c.loop-left.left - 1 in
+    let on : k + 1 ≡ c.loop-left.left = omega arith in
+    let from : TopsFrom (k + 1) c.loop-left.top c.loop-left.tops c.args.w.now = rw on c.loop-left.invariant.2 in
+    (omega arith, simp length-set (omega arith), tops_more k c.loop-left.top c.later-top.result c.loop-left.tops c.args.w.now (omega arith) c.later-top.ensures.0 c.later-top.ensures.1 from)
+
+pub returns : goal.returns
+returns c =
+    let none : c.loop-left.left ≡ 0 = omega arith in
+    tops_all c.loop-left.top c.loop-left.tops c.args.w.now (rw none at c.loop-left.invariant.2)

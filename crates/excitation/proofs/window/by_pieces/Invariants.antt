@@ -1,0 +1,25 @@
+-- `by_pieces` meets its contract: after each piece the state is that after the samples that stand in `out`. Assumes nothing.
+use mathlib.Core.Path.{◌≡◌, refl, ◌∙◌}
+use Prim.Native.Nat.{◌+◌, ◌-◌, ◌≤◌}
+use native.Mathlib.Omega.{arith}
+use lib.ListN.{length}
+use Rattle.number.specs.Lists.{row}
+use Rattle.number.proofs.Lists.{length_row, length_put_row}
+use Rattle.history.proofs.StepLaws.{Reached, reached_none, reached_end}
+use Rattle.noise.specs.Draw.{tries}
+use Rattle.excitation.specs.Excitation.{excitation, step_of}
+use Rattle.excitation.proofs.PieceLaws.{few, piece_full, piece_dry}
+use borrow.Author.Rules.{rules}
+use Rattle.excitation.proofs.window.by_pieces.Given as goal
+
+abbrev pub invariant-loop-i : goal.invariant-loop-i
+invariant-loop-i l =
+    (l.n ≡ length l.initial.out)
+    × (l.i ≤ l.n)
+    × (length l.line ≡ length l.initial.line)
+    × (length l.out ≡ length l.initial.out)
+    × (length l.queue ≡ 64)
+    × Reached (step_of tries l.lpf) l.i (excitation l.initial.last_pulse l.initial.next l.initial.used l.initial.queue l.initial.line) (excitation l.last_pulse l.next l.used l.queue l.line) l.out l.initial.out
+
+abbrev pub decreases-loop-i : goal.decreases-loop-i
+decreases-loop-i l = l.n - l.i

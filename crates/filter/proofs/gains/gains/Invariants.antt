@@ -1,0 +1,19 @@
+-- `gains` meets its contract: the samples that are left, from c0 here on, come to what all of them come to from the start. Assumes nothing.
+use borrow.Author.Rules.{rules}
+use mathlib.Core.Path.{◌≡◌, refl, sym, ap, ◌∙◌}
+use mathlib.Core.Logic.{⊎_elim}
+use Prim.Native.Nat.{◌+◌, ◌-◌, ◌≤◌}
+use native.Mathlib.Omega.{arith}
+use lib.ListN.{length, length-take, length-drop}
+use lib.Ieee.{Float}
+use Rattle.history.specs.Through.{Passage, through}
+use Rattle.history.proofs.ThroughLaws.{from_here, through_all, through_block, length_block, through_end}
+use Rattle.filter.specs.Zero.{gain_of}
+use Rattle.filter.proofs.gains.gains.Given as goal
+
+abbrev pub invariant-loop-i : goal.invariant-loop-i
+invariant-loop-i l =
+    (l.i ≤ length l.samples) × (length l.samples ≡ length l.initial.samples) × (from_here (gain_of l.increment) l.i l.c0 l.samples ≡ through (gain_of l.increment) l.start l.initial.samples)
+
+abbrev pub decreases-loop-i : goal.decreases-loop-i
+decreases-loop-i l = length l.samples - l.i

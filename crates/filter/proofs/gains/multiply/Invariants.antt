@@ -1,0 +1,21 @@
+-- `multiply` meets its contract: the samples that are left, from c0 here on, come to what all of them come to from the start. Assumes nothing.
+use borrow.Author.Rules.{rules}
+use mathlib.Core.Path.{◌≡◌, refl, sym, ap, ◌∙◌}
+use Prim.Native.Nat.{ℕ, ◌-◌, ◌≤◌}
+use native.Mathlib.Omega.{arith}
+use lib.ListN.{length, length-set}
+use lib.Ieee.{Float}
+use Rattle.history.specs.Through.{passage, through}
+use Rattle.history.proofs.ThroughLaws.{from_here, through_all, through_end}
+use Rattle.filter.specs.Zero.{gain_of, on_by, Prepared}
+use Rattle.filter.proofs.GainLaws.{gain_turn}
+use Rattle.filter.proofs.gains.multiply.Given as goal
+
+abbrev pub invariant-loop-i : goal.invariant-loop-i
+invariant-loop-i l =
+    (l.i ≤ length l.samples) × (length l.samples ≡ length l.initial.samples)
+    × ((increment start : Float) → Prepared increment start (length l.initial.samples) l.rests l.powers
+    → from_here (gain_of increment) l.i (on_by increment start l.i) l.samples ≡ through (gain_of increment) start l.initial.samples)
+
+abbrev pub decreases-loop-i : goal.decreases-loop-i
+decreases-loop-i l = length l.samples - l.i

@@ -1,0 +1,23 @@
+-- `samples_in` meets its contract: the samples that are left, from the state here on, come to what all of them come to from the start. Assumes nothing.
+use borrow.Author.Rules.{rules}
+use mathlib.Core.Path.{◌≡◌, refl, sym, ◌∙◌}
+use Prim.Native.Nat.{◌-◌, ◌≤◌}
+use native.Mathlib.Omega.{arith}
+use lib.ListN.{length, length-set}
+use lib.Ieee.{nan}
+use Rattle.history.specs.Through.{through}
+use Rattle.history.proofs.ThroughLaws.{from_here, through_all, through_turn, through_end}
+use Rattle.mlsa.specs.Mlsa.{filter}
+use Rattle.mlsa.specs.Laid.{flat}
+use Rattle.filter.specs.Sample.{state}
+use Rattle.filter.specs.Zero.{filtered_of}
+use Rattle.filter.proofs.laid.samples_in.Given as goal
+
+abbrev pub invariant-loop-i : goal.invariant-loop-i
+invariant-loop-i l =
+    (l.i ≤ length l.samples) × (length l.samples ≡ length l.initial.samples) × (length l.c ≡ length l.initial.c) × (length l.d11 ≡ 6) × (length l.d12 ≡ 6) × (length l.first ≡ length l.initial.first) × (length l.second ≡ length l.initial.second) × (length l.d21 ≡ length l.initial.d21) × (length l.d22 ≡ 6)
+    × (from_here (filtered_of l.alpha l.volume l.increments) l.i (state l.c (filter l.d11 l.d12 (flat (length l.initial.c) l.first l.second l.d21) l.d22)) l.samples
+    ≡ through (filtered_of l.alpha l.volume l.increments) (state l.initial.c (filter l.initial.d11 l.initial.d12 (flat (length l.initial.c) l.initial.first l.initial.second l.initial.d21) l.initial.d22)) l.initial.samples)
+
+abbrev pub decreases-loop-i : goal.decreases-loop-i
+decreases-loop-i l = length l.samples - l.i

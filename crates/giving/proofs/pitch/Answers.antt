@@ -1,0 +1,29 @@
+-- `pitch` meets its contract. Assumes nothing.
+use borrow.Author.Rules.{rules}
+use mathlib.Core.Path.{◌≡◌, refl, ap, ◌∙◌}
+use native.Mathlib.Omega.{arith}
+use Prim.Native.Nat.{◌^◌}
+use lib.Dec.{le→leb}
+use lib.IntN.{pos}
+use lib.Ieee.{Float, binary64, in_float, of_int}
+use Rattle.number.specs.F64.{◌⊘◌}
+use Rattle.number.specs.Range.{clamp_of}
+use Rattle.exponential.specs.Exp.{exp_of}
+use Rattle.pulse.specs.declared.Pitch.TheVariants.{Voiced}
+use Rattle.giving.specs.Pitch.{pitch_of}
+use Rattle.giving.proofs.pitch.Goals as goal
+
+pub returns-then-lf0-configuration : goal.returns-then-lf0-configuration
+unfolding pitch_of
+returns-then-lf0-configuration c = rw c.if-lf0-configuration.true refl
+
+pub int_to_float-result : goal.int_to_float-result
+unfolding in_float
+int_to_float-result c = le→leb c.args.configuration.rate (2 ^ 53) (omega arith)
+
+pub returns : goal.returns
+unfolding pitch_of
+returns c =
+    let k : ◌≡◌ {A = Float} c.clamp-clamped.result (clamp_of c.args.lf0 c.args.configuration.low c.args.configuration.high) = c.clamp-clamped.ensures in
+    let e : ◌≡◌ {A = Float} c.exp.result (exp_of c.clamp-clamped.result) = c.exp.ensures.value in
+    rw c.if-lf0-configuration.false (ap (λ (x : Float). Voiced (of_int binary64 (pos c.args.configuration.rate) ⊘ x)) (e ∙ ap (λ (x : Float). exp_of x) k))

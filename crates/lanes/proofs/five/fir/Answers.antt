@@ -1,0 +1,59 @@
+-- `fir` meets its contract: the first two taps of each row, the groups, and the taps one by one. Assumes nothing.
+use borrow.Author.Rules.{rules}
+use mathlib.Core.Path.{◌≡◌, ap, ◌∙◌}
+use Prim.Native.Nat.{ℕ, ◌<◌}
+use native.Mathlib.Omega.{arith}
+use lib.ListN.{length}
+use Rattle.number.specs.F64.{◌⊕◌}
+use Rattle.fir.specs.Fir.{Taps, Filtered, fir_of}
+use Rattle.fir.proofs.FirLaws.{taps_by}
+use Rattle.lanes.specs.Rows.{row_at, number_at, taps_at}
+use Rattle.lanes.proofs.RowLaws.{each_row, length_row_at}
+use Rattle.lanes.proofs.five.fir.Goals as goal
+use Rattle.lanes.proofs.five.fir.Goals.{After-groups-grouped, After-singles-s}
+
+-- the lists are as long as they were, after the groups and after the single taps
+grouped_long : (c : After-groups-grouped) → (length c.groups-grouped.new.first ≡ length c.args.first.now) × (length c.groups-grouped.new.second ≡ length c.args.second.now) × (length c.groups-grouped.new.last ≡ length c.args.last.now)
+grouped_long c = (c.groups-grouped.auto.first ∙ c.start_all-begun.auto.first, c.groups-grouped.auto.second ∙ c.start_all-begun.auto.second, c.groups-grouped.auto.last ∙ c.start_all-begun.auto.last)
+
+all_long : (c : After-singles-s) → (length c.singles-s.new.first ≡ length c.args.first.now) × (length c.singles-s.new.second ≡ length c.args.second.now) × (length c.singles-s.new.last ≡ length c.args.last.now)
+all_long c = let g = grouped_long c.After-groups-grouped in (c.singles-s.auto.first ∙ g.0, c.singles-s.auto.second ∙ g.1, c.singles-s.auto.last ∙ g.2)
+
+pub overflow_sub-from : goal.overflow_sub-from
+overflow_sub-from c =
+    omega arith
+
+pub overflow_mul-from : goal.overflow_mul-from
+overflow_mul-from c =
+    omega arith
+
+pub overflow_add-from : goal.overflow_add-from
+overflow_add-from c =
+    omega arith
+
+pub singles-s-requires : goal.singles-s-requires
+singles-s-requires c =
+    let long = grouped_long (goal.at.singles-s-requires c).After-groups-grouped in
+    omega arith
+
+pub shape_of-first : goal.shape_of-first
+shape_of-first c = (all_long (goal.at.shape_of-first c).After-singles-s).0
+
+pub shape_of-second : goal.shape_of-second
+shape_of-second c = (all_long (goal.at.shape_of-second c).After-singles-s).1
+
+pub shape_of-last : goal.shape_of-last
+shape_of-last c = (all_long (goal.at.shape_of-last c).After-singles-s).2
+
+-- the taps after it, and the sum of the two running sums
+abbrev filtered : Taps → Filtered
+filtered t = record { d = t.d; y = t.on.y0 ⊕ t.on.y1 }
+
+pub returns : goal.returns
+unfolding fir_of
+returns c =
+    let n = length c.args.c.now in
+    let made : (k : ℕ) → k < 5 → filtered (taps_at k n c.singles-s.new.first c.singles-s.new.second c.singles-s.new.last c.singles-s.result)
+    ≡ fir_of c.args.alpha (number_at k c.args.x) c.args.c.now (row_at k n c.args.first.now c.args.second.now c.args.last.now) =
+    λ k h. ap filtered (taps_by _ _ _ (row_at k n c.args.first.now c.args.second.now c.args.last.now) n _ _ _ (length_row_at n c.args.first.now c.args.second.now c.args.last.now c.requires.3 k h) c.requires.0 (c.start_all-begun.ensures k h) (c.groups-grouped.ensures k h) (c.singles-s.ensures k h)) in
+    each_row _ (made 0 (omega arith)) (made 1 (omega arith)) (made 2 (omega arith)) (made 3 (omega arith)) (made 4 (omega arith))

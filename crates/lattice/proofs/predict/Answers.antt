@@ -1,0 +1,29 @@
+-- `predict` meets its contract: what is made, with what the turns that are left make, is what all of them make. Assumes nothing.
+use mathlib.Core.Path.{◌≡◌, refl, sym, ◌∙◌}
+use mathlib.Core.List.{◌++◌}
+use Prim.Native.Nat.{◌-◌, ◌≤◌}
+use native.Mathlib.Omega.{arith}
+use lib.ListN.{length, take, length-set}
+use Rattle.number.specs.F64.{0f, 1f}
+use Rattle.lattice.specs.Lattice.{predicted}
+use Rattle.lattice.proofs.LatticeLaws.{predict_turn, predict_done}
+use borrow.Author.Rules.{rules}
+use Rattle.lattice.proofs.predict.Goals as goal
+
+pub loop-k-init : goal.loop-k-init
+loop-k-init c =
+    let n = length c.args.lpc.now in
+    let e : n - 0 ≡ n = omega arith in
+    (omega arith, refl, omega arith, refl, refl, refl, refl, rw e refl)
+
+pub loop-k-smaller : goal.loop-k-smaller
+loop-k-smaller c = simp length-set (omega arith)
+
+pub loop-k-preserved : goal.loop-k-preserved
+loop-k-preserved c =
+    let turn = predict_turn c.args.odd c.args.p.now c.args.q.now c.loop-k.xx c.loop-k.xf c.loop-k.xff c.loop-k.a1 c.loop-k.a2 c.loop-k.b1 c.loop-k.b2 c.loop-k.lpc (length c.args.lpc.now) c.loop-k.k _ _ _ _ _ _ _ _ (omega arith) (omega arith) c.a_in.ensures c.chain-a0.ensures.value c.chain-a0.ensures.a1_after c.chain-a0.ensures.a2_after c.b_in.ensures c.chain-b0.ensures.value c.chain-b0.ensures.a1_after c.chain-b0.ensures.a2_after in
+    (simp length-set (omega arith), length-set c.loop-k.lpc c.loop-k.k _ ∙ c.loop-k.invariant.1, c.loop-k.invariant.2, omega arith, omega arith, omega arith, omega arith, turn ∙ c.loop-k.invariant.7)
+
+pub returns : goal.returns
+returns c =
+    sym (predict_done c.args.odd c.args.p.now c.args.q.now c.loop-k.xx c.loop-k.xf c.loop-k.xff c.loop-k.a1 c.loop-k.a2 c.loop-k.b1 c.loop-k.b2 c.loop-k.lpc (length c.args.lpc.now) c.loop-k.k (omega arith) (omega arith)) ∙ c.loop-k.invariant.7

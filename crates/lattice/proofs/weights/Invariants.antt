@@ -1,0 +1,15 @@
+-- `weights` meets its contract: the entries that are left decide. Assumes nothing.
+use mathlib.Core.Path.{◌≡◌, refl, ◌∙◌}
+use Prim.Native.Nat.{ℕ, ◌+◌, ◌-◌, ◌/◌, ◌≤◌}
+use native.Mathlib.Omega.{arith}
+use lib.ListN.{length, drop, length-set, length-drop}
+use Rattle.lattice.specs.Lattice.{every_other}
+use Rattle.lattice.proofs.LatticeLaws.{length_every_other, Weighed, weighed_none, weighed_all, last_outside, last_more, turn_outside, turn_more}
+use borrow.Author.Rules.{rules}
+use Rattle.lattice.proofs.weights.Given as goal
+
+abbrev pub invariant-loop-i : goal.invariant-loop-i
+invariant-loop-i l = (l.i ≤ length l.q) × (length l.p ≡ length l.initial.p) × (length l.q ≡ length l.initial.q) × Weighed (every_other l.lsp) l.p l.i × Weighed (every_other (drop 1 l.lsp)) l.q l.i
+
+abbrev pub decreases-loop-i : goal.decreases-loop-i
+decreases-loop-i l = length l.q - l.i

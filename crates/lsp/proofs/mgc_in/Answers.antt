@@ -1,0 +1,55 @@
+-- `mgc_in` meets its contract: each answer decides. Assumes nothing.
+use mathlib.Core.Path.{◌≡◌, refl, ◌∙◌}
+use native.Mathlib.Omega.{arith}
+use lib.ListN.{length, set, length-set}
+use Rattle.elementary.proofs.OutcomeLaws.{is_outside, is_inside}
+use Rattle.generalized.specs.Generalized.{ignorm_of}
+use Rattle.lattice.specs.Lattice.{lsp2lpc_of}
+use Rattle.number.proofs.Floats.{small_float}
+use Rattle.lsp.proofs.LspLaws.{mgc_outside_lpc, mgc_outside_gain, mgc_of}
+use borrow.Author.Rules.{rules}
+use Rattle.lsp.proofs.mgc_in.Goals as goal
+
+pub returns-in_default : goal.returns-in_default
+returns-in_default c =
+    let out = is_outside (lsp2lpc_of c.args.lsp.now) _ c.lsp2lpc-predicted.ensures.value c.in_default.is in
+    let d = mgc_outside_lpc c.args.log c.args.s c.args.lsp.now out in
+    record { value = rw d refl; mgc_after = rw d refl }
+
+pub ignorm-denormalised-requires : goal.ignorm-denormalised-requires
+ignorm-denormalised-requires c =
+    let kept : length c.lsp2lpc-predicted.new.lpc ≡ length c.args.lpc.now = c.lsp2lpc-predicted.auto.lpc in
+    (simp length-set (omega (arith, kept)), omega arith)
+
+pub shape_of-lpc-in_default-denormalised : goal.shape_of-lpc-in_default-denormalised
+shape_of-lpc-in_default-denormalised c =
+    (simp length-set at c.ignorm-denormalised.auto.c) ∙ c.lsp2lpc-predicted.auto.lpc
+
+pub returns-in_default-denormalised : goal.returns-in_default-denormalised
+returns-in_default-denormalised c =
+    let made = is_inside (lsp2lpc_of c.args.lsp.now) _ c.args.lpc.now _ c.lsp2lpc-predicted.ensures.value c.in-Inside.is c.lsp2lpc-predicted.ensures.lpc_after in
+    let out = is_outside (ignorm_of c.args.s (set c.lsp2lpc-predicted.new.lpc 0 c.gain.result)) _ c.ignorm-denormalised.ensures.value c.in_default-denormalised.is in
+    let d = mgc_outside_gain c.args.log c.args.s c.args.lsp.now _ _ made c.gain.ensures out in
+    record { value = rw d refl; mgc_after = rw d refl }
+
+pub int_to_float-s : goal.int_to_float-s
+int_to_float-s c = small_float _ (omega arith)
+
+pub mgc2mgc-requires : goal.mgc2mgc-requires
+mgc2mgc-requires c =
+    let kept : length c.lsp2lpc-predicted.new.lpc ≡ length c.args.lpc.now = c.lsp2lpc-predicted.auto.lpc in
+    let kept2 : length c.ignorm-denormalised.new.c ≡ length c.lsp2lpc-predicted.new.lpc = simp length-set at c.ignorm-denormalised.auto.c in
+    let kept3 : length c.multiply_from.new.c ≡ length c.ignorm-denormalised.new.c = c.multiply_from.auto.c in
+    (omega arith, omega (arith, kept, kept2, kept3), omega arith, omega arith)
+
+pub shape_of-lpc : goal.shape_of-lpc
+shape_of-lpc c =
+    c.mgc2mgc.auto.c ∙ c.multiply_from.auto.c ∙ (simp length-set at c.ignorm-denormalised.auto.c) ∙ c.lsp2lpc-predicted.auto.lpc
+
+pub returns : goal.returns
+returns c =
+    let made = is_inside (lsp2lpc_of c.args.lsp.now) _ c.args.lpc.now _ c.lsp2lpc-predicted.ensures.value c.in-Inside.is c.lsp2lpc-predicted.ensures.lpc_after in
+    let back = is_inside (ignorm_of c.args.s (set c.lsp2lpc-predicted.new.lpc 0 c.gain.result)) _ (set c.lsp2lpc-predicted.new.lpc 0 c.gain.result) _ c.ignorm-denormalised.ensures.value c.in-Inside-denormalised.is c.ignorm-denormalised.ensures.c_after in
+    let d = mgc_of c.args.log c.args.s c.args.lsp.now _ _ made c.gain.ensures _ _ back c.multiply_from.ensures in
+    let n : length c.args.mgc.now ≡ length c.args.lsp.now = c.requires.3 in
+    record { value = rw (d, ← n) c.mgc2mgc.ensures.value; mgc_after = rw (d, ← n) c.mgc2mgc.ensures.d_after }

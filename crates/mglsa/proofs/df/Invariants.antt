@@ -1,0 +1,14 @@
+-- `df` meets its contract: the stages that are left make of the taps here what all of them make of them at the start. Assumes nothing.
+use mathlib.Core.Path.{◌≡◌, refl, sym, ap, ◌∙◌}
+use Prim.Native.Nat.{◌+◌, ◌-◌, ◌≤◌}
+use native.Mathlib.Omega.{arith}
+use lib.ListN.{length}
+use Rattle.mglsa.specs.Mglsa.{passed, stages_from, turned, df_of}
+use Rattle.mglsa.proofs.MglsaLaws.{stage_turn, stages_turn, stage_end, row_within, rows_within}
+use Rattle.mglsa.proofs.df.Given as goal
+
+abbrev pub invariant-loop-i : goal.invariant-loop-i
+invariant-loop-i l = (l.i ≤ l.stages) × (length l.d ≡ length l.initial.d) × (stages_from l.alpha l.c (l.stages - l.i) l.i (passed l.d l.out) ≡ stages_from l.alpha l.c l.stages 0 (passed l.initial.d l.initial.out))
+
+abbrev pub decreases-loop-i : goal.decreases-loop-i
+decreases-loop-i l = l.stages - l.i

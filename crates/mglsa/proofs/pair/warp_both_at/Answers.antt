@@ -1,0 +1,13 @@
+-- `warp_both_at` meets its contract: a store in either row leaves the other as it was. Assumes nothing.
+use borrow.Author.Rules.{rules}
+use native.Mathlib.Omega.{arith}
+use lib.ListN.{length-set}
+use Rattle.mglsa.proofs.PairLaws.{warped_both}
+use Rattle.mglsa.proofs.pair.warp_both_at.Goals as goal
+
+pub bounds-d-j-2 : goal.bounds-d-j-2
+bounds-d-j-2 c = simp length-set (omega arith)
+
+pub returns : goal.returns
+returns c =
+    warped_both c.args.alpha c.args.c.now c.args.d.now c.args.i c.args.n c.args.s c.requires.0 c.requires.1 c.requires.2 c.requires.4 c.requires.5

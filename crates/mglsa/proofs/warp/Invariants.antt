@@ -1,0 +1,15 @@
+-- `warp` meets its contract: the taps that are left make of the row here what all of them make of it at the start. Assumes nothing.
+use borrow.Author.Rules.{rules}
+use mathlib.Core.Path.{◌≡◌, refl, sym, ap, ◌∙◌}
+use Prim.Native.Nat.{◌+◌, ◌-◌, ◌≤◌}
+use native.Mathlib.Omega.{arith}
+use lib.ListN.{length}
+use Rattle.mglsa.specs.Mglsa.{passed, warps, warped}
+use Rattle.mglsa.proofs.MglsaLaws.{warp_turn, warp_end}
+use Rattle.mglsa.proofs.warp.Given as goal
+
+abbrev pub invariant-loop-i : goal.invariant-loop-i
+invariant-loop-i l = (1 ≤ l.i) × (l.i + 1 ≤ length l.initial.d) × (length l.d ≡ length l.initial.d) × (warps l.alpha l.c (length l.initial.d - 1 - l.i) l.i (passed l.d l.y) ≡ warps l.alpha l.c (length l.initial.d - 2) 1 (passed l.initial.d l.initial.y))
+
+abbrev pub decreases-loop-i : goal.decreases-loop-i
+decreases-loop-i l = length l.initial.d - l.i

@@ -1,0 +1,16 @@
+-- `lane_back` meets its contract: the first i taps are those of the lane, the others as they were. Assumes nothing.
+use borrow.Author.Rules.{rules}
+use mathlib.Core.Path.{◌≡◌, refl}
+use Prim.Native.Nat.{◌-◌, ◌≤◌}
+use native.Mathlib.Omega.{arith}
+use lib.ListN.{length, take, length-set}
+use Rattle.number.specs.Lists.{over}
+use Rattle.lanes.specs.Lane.{lane}
+use Rattle.mlsa.proofs.LayoutLaws.{back_turn, back_end}
+use Rattle.mlsa.proofs.layout.lane_back.Given as goal
+
+abbrev pub invariant-loop-i : goal.invariant-loop-i
+invariant-loop-i l = (l.i ≤ length l.initial.out) × (length l.out ≡ length l.initial.out) × (l.out ≡ over (take l.i (lane l.k (length l.initial.out) l.pair)) l.i l.initial.out)
+
+abbrev pub decreases-loop-i : goal.decreases-loop-i
+decreases-loop-i l = length l.initial.out - l.i

@@ -1,0 +1,17 @@
+-- `lay_pair` meets its contract: the first i taps of each lane are those of its row. Assumes nothing.
+use mathlib.Core.Path.{◌≡◌, refl}
+use Prim.Native.Nat.{ℕ, ◌+◌, ◌-◌, ◌*◌, ◌≤◌, ◌<◌}
+use native.Mathlib.Omega.{arith}
+use lib.ListN.{length, take, drop}
+use Rattle.lanes.specs.Lane.{lane}
+use Rattle.lanes.proofs.LaneLaws.{length_lane}
+use Rattle.mlsa.proofs.MlsaLaws.{rows_from}
+use Rattle.mlsa.proofs.LayoutLaws.{lay_turn, lay_end}
+use Rattle.mlsa.proofs.layout.lay_pair.Given as goal
+
+abbrev pub invariant-loop-i : goal.invariant-loop-i
+invariant-loop-i l =
+    (l.i ≤ l.n) × (length l.pair ≡ length l.initial.pair) × ((k : ℕ) → k < 2 → take l.i (lane k l.n l.pair) ≡ take l.i (drop (l.from + k * l.n) l.d21))
+
+abbrev pub decreases-loop-i : goal.decreases-loop-i
+decreases-loop-i l = l.n - l.i

@@ -1,0 +1,16 @@
+-- `weigh` meets its contract: below k the weights are made. Assumes nothing.
+use mathlib.Core.Path.{◌≡◌, ◌∙◌}
+use Prim.Native.Nat.{ℕ, ◌-◌, ◌≤◌, ◌<◌}
+use native.Mathlib.Omega.{arith}
+use lib.ListN.{length, length-set}
+use Rattle.number.specs.F64.{◌‼◌}
+use Rattle.noise.specs.Gathering.{weight_of}
+use Rattle.noise.proofs.GatherLaws.{weighed_more}
+use borrow.Author.Rules.{rules}
+use Rattle.noise.proofs.gather.weigh.Given as goal
+
+abbrev pub invariant-loop-k : goal.invariant-loop-k
+invariant-loop-k l = (l.k ≤ length l.sums) × (length l.weights ≡ length l.sums) × ((j : ℕ) → j < l.k → l.weights ‼ j ≡ weight_of (l.sums ‼ j))
+
+abbrev pub decreases-loop-k : goal.decreases-loop-k
+decreases-loop-k l = length l.sums - l.k

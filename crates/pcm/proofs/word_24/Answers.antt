@@ -1,0 +1,13 @@
+-- `word_24`: `word` with the limits of its width. Assumes nothing.
+use mathlib.Core.Path.{refl}
+use lib.Dec.{lit≤}
+use lib.Ieee.{of_bits, neg}
+use Rattle.pcm.proofs.word_24.Goals as goal
+
+pub word-requires : goal.word-requires
+unfolding of_bits neg
+word-requires c = (23, record { from = lit≤ tt; upto = lit≤ tt; scaling = refl; bottom = refl; top = refl })
+
+pub returns : goal.returns
+unfolding of_bits neg
+returns c = c.word.ensures 23 (record { from = lit≤ tt; upto = lit≤ tt; scaling = refl; bottom = refl; top = refl })

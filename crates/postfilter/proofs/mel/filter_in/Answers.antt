@@ -1,0 +1,57 @@
+-- `filter_in` meets its contract: the answer of ln decides. Assumes nothing.
+use mathlib.Core.Path.{◌≡◌, refl, ap, ◌∙◌}
+use native.Mathlib.Omega.{arith}
+use lib.ListN.{length, length-set}
+use Rattle.postfilter.specs.Mel.{sharpened_of}
+use Rattle.postfilter.proofs.PostfilterLaws.{mcp_outside, mcp_inside}
+use borrow.Author.Rules.{rules}
+use Rattle.postfilter.proofs.mel.filter_in.Goals as goal
+
+pub copy-requires : goal.copy-requires
+copy-requires c =
+    let n : length c.mc2b.new.b ≡ length c.args.b.now = c.mc2b.auto.b in
+    omega (arith, n)
+
+pub sharpen-requires : goal.sharpen-requires
+sharpen-requires c =
+    let n : length c.mc2b.new.b ≡ length c.args.b.now = c.mc2b.auto.b in
+    let k : length c.copy.new.to ≡ length c.args.t.now = c.copy.auto.to in
+    omega (arith, k)
+
+pub b2en_both-energies-requires : goal.b2en_both-energies-requires
+b2en_both-energies-requires c =
+    let n : length c.mc2b.new.b ≡ length c.args.b.now = c.mc2b.auto.b in
+    let k : length c.copy.new.to ≡ length c.args.t.now = c.copy.auto.to in
+    let m : length c.sharpen.new.b ≡ length c.copy.new.to = c.sharpen.auto.b in
+    (omega (arith, n), omega (arith, n), omega (arith, k, m), omega (arith, k, m))
+
+pub b2mc-requires : goal.b2mc-requires
+b2mc-requires c =
+    let n : length c.mc2b.new.b ≡ length c.args.b.now = c.mc2b.auto.b in
+    let k : length c.copy.new.to ≡ length c.args.t.now = c.copy.auto.to in
+    let m : length c.sharpen.new.b ≡ length c.copy.new.to = c.sharpen.auto.b in
+    (simp length-set (omega (arith, k, m)), simp length-set (omega (arith, k, m)))
+
+pub shape_of-b-in-Inside : goal.shape_of-b-in-Inside
+shape_of-b-in-Inside c = c.mc2b.auto.b
+
+pub shape_of-t-in-Inside : goal.shape_of-t-in-Inside
+shape_of-t-in-Inside c = length-set c.sharpen.new.b 0 _ ∙ c.sharpen.auto.b ∙ c.copy.auto.to
+
+pub returns-in-Inside : goal.returns-in-Inside
+returns-in-Inside c =
+    let sharp = c.sharpen.ensures ∙ ap (sharpened_of c.args.alpha c.args.beta) c.copy.ensures in
+    let d = mcp_inside c.args.alpha c.args.beta c.args.c.now _ _ _ _ _ c.mc2b.ensures sharp c.b2en_both-energies.ensures.0 c.b2en_both-energies.ensures.1 c.ln-ratio.ensures.value c.in-Inside.y c.in-Inside.is in
+    record { value = rw d refl; c_after = rw d c.b2mc.ensures }
+
+pub shape_of-b-in-Outside : goal.shape_of-b-in-Outside
+shape_of-b-in-Outside c = c.mc2b.auto.b
+
+pub shape_of-t-in-Outside : goal.shape_of-t-in-Outside
+shape_of-t-in-Outside c = c.sharpen.auto.b ∙ c.copy.auto.to
+
+pub returns-in-Outside : goal.returns-in-Outside
+returns-in-Outside c =
+    let sharp = c.sharpen.ensures ∙ ap (sharpened_of c.args.alpha c.args.beta) c.copy.ensures in
+    let d = mcp_outside c.args.alpha c.args.beta c.args.c.now _ _ _ _ _ c.mc2b.ensures sharp c.b2en_both-energies.ensures.0 c.b2en_both-energies.ensures.1 c.ln-ratio.ensures.value c.in-Outside.is in
+    record { value = rw d refl; c_after = rw d refl }

@@ -1,0 +1,16 @@
+-- `forms_kept` meets its contract. Assumes nothing.
+use mathlib.Core.Path.{◌≡◌, refl, sym, ◌∙◌}
+use Prim.Native.Nat.{◌-◌, ◌≤◌}
+use native.Mathlib.Omega.{arith}
+use borrow.Author.Tests.{not-true, not-false}
+use lib.ListN.{length, drop}
+use Rattle.refusing.specs.Refusal.{every}
+use Rattle.refusing.proofs.EveryLaws.{every_turn, every_fails, every_done}
+use Rattle.slots.specs.Sound.{one_form}
+use Rattle.reading.proofs.check.forms_kept.Given as goal
+
+abbrev pub invariant-loop-i : goal.invariant-loop-i
+invariant-loop-i l = (l.i ≤ length l.values) × (every one_form (drop l.i l.values) ≡ every one_form l.values)
+
+abbrev pub decreases-loop-i : goal.decreases-loop-i
+decreases-loop-i l = length l.values - l.i

@@ -1,0 +1,17 @@
+-- `all_within` meets its contract. Assumes nothing.
+use borrow.Author.Rules.{rules}
+use mathlib.Core.Path.{◌≡◌, refl, sym, ◌∙◌}
+use Prim.Native.Nat.{◌-◌, ◌≤◌}
+use native.Mathlib.Omega.{arith}
+use borrow.Author.Tests.{not-true, not-false}
+use lib.ListN.{length, drop}
+use lib.Ieee.{nan, of_bits, neg}
+use Rattle.refusing.specs.Refusal.{every, small}
+use Rattle.refusing.proofs.EveryLaws.{every_turn, every_fails, every_done}
+use Rattle.refusing.proofs.entries.all_within.Given as goal
+
+abbrev pub invariant-loop-i : goal.invariant-loop-i
+invariant-loop-i l = (l.i ≤ length l.values) × (every small (drop l.i l.values) ≡ every small l.values)
+
+abbrev pub decreases-loop-i : goal.decreases-loop-i
+decreases-loop-i l = length l.values - l.i

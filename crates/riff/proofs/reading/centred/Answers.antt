@@ -1,0 +1,10 @@
+-- `centred`: the law on the machine. Assumes nothing.
+use Rattle.riff.proofs.ReadingLaws.{centred_is}
+use borrow.Author.Rules.{rules}
+use Rattle.riff.proofs.reading.centred.Goals as goal
+
+pub overflow_sub-result : goal.overflow_sub-result
+overflow_sub-result c = (centred_is c.args.half c.args.w c.requires.0 c.requires.1 c.requires.2).0
+
+pub returns : goal.returns
+returns c = (centred_is c.args.half c.args.w c.requires.0 c.requires.1 c.requires.2).1

@@ -1,0 +1,26 @@
+-- `part`: by its test. Assumes nothing.
+use mathlib.Core.Path.{refl}
+use Prim.Native.Nat.{◌*◌, ◌≤◌}
+use native.Mathlib.Nat.{mul-le-mul_right}
+use native.Mathlib.Omega.{arith}
+use lib.ListN.{length}
+use Rattle.pcm.proofs.SamplesLaws.{length_bytes_of}
+use Rattle.riff.proofs.WritingLaws.{short, enough, writes_nothing, writes_all}
+use borrow.Author.Rules.{rules}
+use Rattle.riff.proofs.writing.part.Goals as goal
+
+pub overflow_mul-bytes : goal.overflow_mul-bytes
+overflow_mul-bytes c = record { fits = omega (arith, mul-le-mul_right (length c.args.samples.now) c.bytes_in.ensures.2) }
+
+pub returns-then-out-bytes : goal.returns-then-out-bytes
+returns-then-out-bytes c =
+    writes_nothing _ _ _ 23 (λ q. omega arith) (rw (← c.bytes_in.ensures.0) (short 0 (length c.args.out.now) (c.bytes_in.result * length c.args.samples.now) _ refl (omega arith))) _ c.refused_by.ensures
+
+pub put_samples-held-requires : goal.put_samples-held-requires
+put_samples-held-requires c = rw (← c.bytes_in.ensures.0) (omega arith)
+
+pub returns : goal.returns
+returns c =
+    let bytes = c.bytes_in.result * length c.args.samples.now in
+    let room : bytes ≤ length c.args.out.now = omega arith in
+    writes_all _ _ c.args.out.now bytes c.put_samples-held.result _ (rw (← c.bytes_in.ensures.0, ← c.put_samples-held.ensures.held) (enough 0 (length c.args.out.now) bytes c.put_samples-held.result refl room)) (rw c.bytes_in.ensures.0 (length_bytes_of _ _ c.args.samples.now)) room c.put_samples-held.ensures.bytes

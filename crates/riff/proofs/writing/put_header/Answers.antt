@@ -1,0 +1,12 @@
+-- `put_header`: its words are the header's bytes. Assumes nothing.
+use native.Mathlib.Omega.{arith}
+use Rattle.riff.proofs.WritingLaws.{header_stored, small_product}
+use borrow.Author.Rules.{rules}
+use Rattle.riff.proofs.writing.put_header.Goals as goal
+
+pub overflow_mul-second : goal.overflow_mul-second
+overflow_mul-second c = record { fits = omega (arith, small_product c.bytes_in-k.result c.args.rate c.bytes_in-k.ensures.2 (omega arith)) }
+
+pub returns : goal.returns
+returns c =
+    header_stored c.args.width c.args.rate c.args.n _ _ c.args.out.now _ c.bytes_in-k.ensures.0 c.requires.1 c.put_words.ensures

@@ -1,0 +1,88 @@
+-- `check_lsp_stability` meets its contract: the passes, and in a pass the gaps, that are left make what all of them make. Assumes nothing.
+use lib.IntN.{pos}
+use lib.Ieee.{binary64, of_int}
+use Rattle.number.specs.F64.{◌⊗◌, ◌⊘◌}
+use Rattle.stability.specs.Stability.{PI, ¼f}
+use mathlib.Core.Path.{◌≡◌, refl, sym, ap, ◌∙◌}
+use mathlib.Core.Bool.{false}
+use mathlib.Core.Logic.{⊎_elim}
+use Prim.Native.Nat.{◌+◌, ◌-◌, ◌≤◌}
+use native.Mathlib.Omega.{arith}
+use lib.ListN.{length, set, length-set}
+use Rattle.stability.specs.Stability.{least_gap, gap, gaps, low_end, pass_of, passes_of, stable_of}
+use Rattle.stability.proofs.StabilityLaws.{at, gap_found, gap_stays, low_found, low_stays, high_found, high_stays, gaps_turn, gaps_done, pass_made, pass_found, pass_last, passes_done}
+use Rattle.number.proofs.Floats.{small_float}
+use borrow.Author.Rules.{rules}
+use borrow.Author.Tests.{not-true, not-false}
+use Rattle.stability.proofs.check_lsp_stability.Goals as goal
+use Rattle.stability.proofs.check_lsp_stability.Goals.{Joined-lsp-last, Joined-lsp-min}
+
+pub int_to_float-min : goal.int_to_float-min
+int_to_float-min c = small_float _ (omega arith)
+
+pub passes-init : goal.passes-init
+passes-init c = (omega arith, omega arith, omega arith, refl, omega arith, refl)
+
+pub loop-j-init : goal.loop-j-init
+loop-j-init c = (omega arith, omega arith, omega arith, omega arith, refl)
+
+pub bounds-lsp-j-then-tmp-min-3 : goal.bounds-lsp-j-then-tmp-min-3
+bounds-lsp-j-then-tmp-min-3 c = simp length-set (omega arith)
+
+pub bounds-lsp-j-then-tmp-min-4 : goal.bounds-lsp-j-then-tmp-min-4
+bounds-lsp-j-then-tmp-min-4 c = simp length-set (omega arith)
+
+pub loop-j-preserved : goal.loop-j-preserved
+loop-j-preserved c =
+    let min = ¼f ⊗ PI ⊘ of_int binary64 (pos (length c.args.lsp.now)) in
+    let last = length c.args.lsp.now - 1 in
+    let made : at c.if-tmp-min.lsp c.if-tmp-min.find ≡ gap min c.loop-j.j (at c.loop-j.lsp c.loop-j.find) = ⊎_elim (λ w. gap_found min c.loop-j.lsp _ c.loop-j.find _ c.loop-j.j w.0.taken w.3 w.4) (λ w. gap_stays min c.loop-j.lsp _ c.loop-j.find _ c.loop-j.j w.0.left w.1 w.2) c.if-tmp-min.branch in
+    let n : length c.if-tmp-min.lsp ≡ length c.loop-j.lsp = ⊎_elim (λ w. ap length w.3 ∙ length-set (set c.loop-j.lsp c.loop-j.j _) (c.loop-j.j + 1) _ ∙ length-set c.loop-j.lsp c.loop-j.j _) (λ w. ap length w.1) c.if-tmp-min.branch in
+    (omega arith, omega arith, omega (arith, n), omega (arith, n), ap (gaps min (c.loop-j.j + 1) (last - (c.loop-j.j + 1))) made ∙ gaps_turn min c.loop-j.j last (at c.loop-j.lsp c.loop-j.find) (omega arith) ∙ c.loop-j.invariant.4)
+
+-- the ends keep the length
+length_joined2 : (c : Joined-lsp-min) → length c.if-lsp-min.lsp ≡ length c.loop-j.lsp
+length_joined2 c = ⊎_elim (λ w. ap length w.1 ∙ length-set c.loop-j.lsp 1 _) (λ w. ap length w.1) c.if-lsp-min.branch
+
+pub bounds-lsp-last : goal.bounds-lsp-last
+bounds-lsp-last c = omega (arith, length_joined2 (goal.at.bounds-lsp-last c).Joined-lsp-min)
+
+pub bounds-lsp-last-then-lsp-last : goal.bounds-lsp-last-then-lsp-last
+bounds-lsp-last-then-lsp-last c = omega (arith, length_joined2 (goal.at.bounds-lsp-last-then-lsp-last c).Joined-lsp-min)
+
+length_joined3 : (c : Joined-lsp-last) → length c.if-lsp-last.lsp ≡ length c.passes.lsp
+length_joined3 c =
+    let n : length c.if-lsp-last.lsp ≡ length c.if-lsp-min.lsp = ⊎_elim (λ w. ap length w.1 ∙ length-set c.if-lsp-min.lsp _ _) (λ w. ap length w.1) c.if-lsp-last.branch in
+    omega (arith, n, length_joined2 c.Joined-lsp-min)
+
+-- a pass is the definition's
+pass_of : (c : Joined-lsp-last) →
+    let len = length c.args.lsp.now in
+    at c.if-lsp-last.lsp c.if-lsp-last.find ≡ pass_of (¼f ⊗ PI ⊘ of_int binary64 (pos len)) (len - 1) c.passes.lsp
+pass_of c =
+    let len = length c.args.lsp.now in
+    let min = ¼f ⊗ PI ⊘ of_int binary64 (pos len) in
+    let gone = sym (gaps_done min c.loop-j.j (len - 1) (at c.loop-j.lsp c.loop-j.find) (omega arith)) ∙ c.loop-j.invariant.4 in
+    let low : at c.if-lsp-min.lsp c.if-lsp-min.find ≡ low_end min (at c.loop-j.lsp c.loop-j.find) = ⊎_elim (λ w. low_found min c.loop-j.lsp _ c.loop-j.find _ w.0.taken w.1 w.2) (λ w. low_stays min c.loop-j.lsp _ c.loop-j.find _ w.0.left w.1 w.2) c.if-lsp-min.branch in
+    let high = ⊎_elim (λ w. high_found min c.if-lsp-min.lsp _ c.if-lsp-min.find _ (len - 1) w.0.taken w.1 w.2) (λ w. high_stays min c.if-lsp-min.lsp _ c.if-lsp-min.find _ (len - 1) w.0.left w.1 w.2) c.if-lsp-last.branch in
+    pass_made min (len - 1) c.passes.lsp (at c.loop-j.lsp c.loop-j.find) (at c.if-lsp-min.lsp c.if-lsp-min.find) (at c.if-lsp-last.lsp c.if-lsp-last.find) gone low high
+
+pub passes-preserved : goal.passes-preserved
+passes-preserved c =
+    let n = length_joined3 (goal.at.passes-preserved c).Joined-lsp-last in
+    let again = pass_found _ _ c.passes.pass c.passes.lsp c.if-lsp-last.lsp c.if-lsp-last.find (omega arith) (pass_of (goal.at.passes-preserved c).Joined-lsp-last) (not-false _ c.if-not-find.false) in
+    (omega arith, omega arith, omega (arith, n), omega (arith, n), omega (arith, n), again ∙ c.passes.invariant.5)
+
+pub returns-after-passes : goal.returns-after-passes
+unfolding stable_of least_gap
+returns-after-passes c =
+    sym (passes_done _ _ c.passes.pass c.passes.lsp (omega arith)) ∙ c.passes.invariant.5
+
+pub shape_of-lsp-then-not-find : goal.shape_of-lsp-then-not-find
+shape_of-lsp-then-not-find c =
+    length_joined3 (goal.at.shape_of-lsp-then-not-find c).Joined-lsp-last ∙ c.passes.invariant.3
+
+pub returns-then-not-find : goal.returns-then-not-find
+unfolding stable_of least_gap
+returns-then-not-find c =
+    pass_last _ _ c.passes.pass c.passes.lsp c.if-lsp-last.lsp c.if-lsp-last.find (omega arith) (pass_of (goal.at.returns-then-not-find c).Joined-lsp-last) (not-true _ c.if-not-find.true) ∙ c.passes.invariant.5

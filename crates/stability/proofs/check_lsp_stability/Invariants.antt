@@ -1,0 +1,29 @@
+-- `check_lsp_stability` meets its contract: the passes, and in a pass the gaps, that are left make what all of them make. Assumes nothing.
+use lib.IntN.{pos}
+use lib.Ieee.{binary64, of_int}
+use Rattle.number.specs.F64.{◌⊗◌, ◌⊘◌}
+use Rattle.stability.specs.Stability.{PI, ¼f}
+use mathlib.Core.Path.{◌≡◌, refl, sym, ap, ◌∙◌}
+use mathlib.Core.Bool.{false}
+use mathlib.Core.Logic.{⊎_elim}
+use Prim.Native.Nat.{◌+◌, ◌-◌, ◌≤◌}
+use native.Mathlib.Omega.{arith}
+use lib.ListN.{length, set, length-set}
+use Rattle.stability.specs.Stability.{least_gap, gap, gaps, low_end, pass_of, passes_of, stable_of}
+use Rattle.stability.proofs.StabilityLaws.{at, gap_found, gap_stays, low_found, low_stays, high_found, high_stays, gaps_turn, gaps_done, pass_made, pass_found, pass_last, passes_done}
+use Rattle.number.proofs.Floats.{small_float}
+use borrow.Author.Rules.{rules}
+use borrow.Author.Tests.{not-true, not-false}
+use Rattle.stability.proofs.check_lsp_stability.Given as goal
+
+abbrev pub invariant-loop-j : goal.invariant-loop-j
+invariant-loop-j l = (1 ≤ l.j) × (l.j ≤ l.last) × (length l.lsp ≡ l.last + 1) × (length l.lsp ≤ 64) × (gaps l.min l.j (l.last - l.j) (at l.lsp l.find) ≡ gaps l.min 1 (l.last - 1) (at l.initial.lsp false))
+
+abbrev pub decreases-loop-j : goal.decreases-loop-j
+decreases-loop-j l = l.last - l.j
+
+abbrev pub invariant-passes : goal.invariant-passes
+invariant-passes l = (l.pass ≤ 4) × (1 ≤ l.last) × (length l.lsp ≡ l.last + 1) × (length l.lsp ≡ length l.initial.lsp) × (length l.lsp ≤ 64) × (passes_of l.min l.last (4 - l.pass) l.lsp ≡ passes_of l.min l.last 4 l.initial.lsp)
+
+abbrev pub decreases-passes : goal.decreases-passes
+decreases-passes l = 4 - l.pass

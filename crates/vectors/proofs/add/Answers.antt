@@ -1,0 +1,24 @@
+-- `add` meets its contract: what is done, and then the rest added, is the whole. Assumes nothing.
+use borrow.Author.Rules.{rules}
+use mathlib.Core.Path.{◌≡◌, refl, sym, ◌∙◌}
+use mathlib.Core.List.{◌++◌}
+use Prim.Native.Nat.{◌+◌, ◌-◌, ◌≤◌}
+use native.Mathlib.Omega.{arith}
+use lib.ListN.{length, take, drop, length-set}
+use Rattle.vectors.specs.Vectors.{plus}
+use Rattle.vectors.proofs.VectorLaws.{plus_turn, plus_done}
+use Rattle.vectors.proofs.add.Goals as goal
+
+pub loop-i-init : goal.loop-i-init
+loop-i-init c = (omega arith, refl, refl)
+
+pub loop-i-smaller : goal.loop-i-smaller
+loop-i-smaller c = simp length-set (omega arith)
+
+pub loop-i-preserved : goal.loop-i-preserved
+loop-i-preserved c =
+    (simp length-set (omega arith), simp length-set (omega arith), plus_turn c.loop-i.c c.args.other.now c.loop-i.i (omega arith) (omega arith) ∙ c.loop-i.invariant.2)
+
+pub returns : goal.returns
+returns c =
+    sym (plus_done c.loop-i.c c.args.other.now c.loop-i.i (omega arith)) ∙ c.loop-i.invariant.2

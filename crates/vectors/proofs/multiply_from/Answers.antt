@@ -1,0 +1,27 @@
+-- `multiply_from` meets its contract: what is made of the rest is what is made of all. Assumes nothing.
+use mathlib.Core.Path.{◌≡◌, refl, sym, ◌∙◌}
+use mathlib.Core.List.{◌++◌, map}
+use Prim.Native.Nat.{◌-◌}
+use native.Mathlib.Omega.{arith}
+use lib.Ieee.{Float}
+use lib.ListN.{length, take, drop, length-set}
+use Rattle.number.specs.F64.{◌⊗◌}
+use Rattle.vectors.specs.Vectors.{times_from}
+use Rattle.vectors.proofs.VectorLaws.{map_turn, map_done}
+use borrow.Author.Rules.{rules}
+use Rattle.vectors.proofs.multiply_from.Goals as goal
+
+pub loop-i-init : goal.loop-i-init
+unfolding times_from
+loop-i-init c = (refl, refl)
+
+pub loop-i-smaller : goal.loop-i-smaller
+loop-i-smaller c = simp length-set (omega arith)
+
+pub loop-i-preserved : goal.loop-i-preserved
+loop-i-preserved c =
+    (length-set c.loop-i.c c.loop-i.i _ ∙ c.loop-i.invariant.0, map_turn (λ (x : Float). x ⊗ c.args.factor) c.loop-i.c c.loop-i.i (omega arith) ∙ c.loop-i.invariant.1)
+
+pub returns : goal.returns
+returns c =
+    sym (map_done (λ (x : Float). x ⊗ c.args.factor) c.loop-i.c c.loop-i.i (omega arith)) ∙ c.loop-i.invariant.1

@@ -1,0 +1,15 @@
+-- `eight_in` meets its contract: the first two entries, and what `sweep_in` makes of the rest. Assumes nothing.
+use mathlib.Core.Path.{◌∙◌}
+use native.Mathlib.Omega.{arith}
+use lib.ListN.{length-set}
+use Rattle.wave.specs.Wave.{made_by}
+use Rattle.wave.proofs.WaveLaws.{wave_stored}
+use borrow.Author.Rules.{rules}
+use Rattle.wave.proofs.eight_in.Goals as goal
+
+pub shape_of-g : goal.shape_of-g
+shape_of-g c = simp length-set at c.sweep_in.auto.g
+
+pub returns : goal.returns
+returns c =
+    c.sweep_in.ensures ∙ wave_stored c.args.alpha _ _ (made_by c.start-started.result.wave) c.args.x.now c.args.g.now (omega arith) c.start-started.ensures.0 c.start-started.ensures.1 c.start-started.ensures.2

@@ -1,0 +1,15 @@
+-- `sweep_in` meets its contract: what is done, with what the definition makes of the rest, is what it makes of all. Assumes nothing.
+use mathlib.Core.Path.{◌≡◌, refl, sym, ◌∙◌}
+use Prim.Native.Nat.{◌+◌, ◌-◌, ◌≤◌}
+use native.Mathlib.Omega.{arith}
+use lib.ListN.{length, length-set}
+use Rattle.wave.specs.Wave.{made_by}
+use Rattle.wave.proofs.WaveLaws.{swept_from, one_stored, two_stored, swept_end}
+use borrow.Author.Rules.{rules}
+use Rattle.wave.proofs.sweep_in.Given as goal
+
+abbrev pub invariant-loop-g : goal.invariant-loop-g
+invariant-loop-g l = (l.j ≤ length l.g) × (length l.g ≡ length l.initial.g) × (swept_from l.alpha l.w.input (made_by l.w) l.j l.g ≡ swept_from l.alpha l.initial.w.input (made_by l.initial.w) 2 l.initial.g)
+
+abbrev pub decreases-loop-g : goal.decreases-loop-g
+decreases-loop-g l = length l.g - l.j
