@@ -1,5 +1,5 @@
 -- A float inside and its bits, the sign aside: what `rest_of` hands on; and the answers. Assumes nothing.
-use Rattle.std.proofs.Common.{◌≡◌, ℕ, ◌-◌, ◌*◌, ◌/◌, ◌%◌, ◌^◌, ◌≤◌, Bool, true, false, not, ◌&&◌, T, ℤ, sym, refl, ap, ◌∙◌, true≢false, le_trans, le_of_eq, mul-le-mul_right, le_of_mul-le-mul_right, arith, pow_pos}
+use Rattle.std.proofs.Common.{◌≡◌, ℕ, ◌*◌, ◌/◌, ◌%◌, ◌^◌, ◌≤◌, Bool, true, false, not, ◌&&◌, T, ℤ, sym, refl, ap, ◌∙◌, true≢false, le_trans, le_of_eq, mul-le-mul_right, le_of_mul-le-mul_right, arith, pow_pos}
 use lib.Ieee.{Float, nan, inf, fin, binary64, fits, is_nan, up, down, le, neg, of_bits, to_bits}
 use lib.Ieee.Fits.{down_pos}
 use lib.Ieee.Nearest.{div_same}

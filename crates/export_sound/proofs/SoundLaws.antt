@@ -1,5 +1,5 @@
 -- What is promised by the bits that were asked for. Assumes nothing.
-use mathlib.Core.Path.{◌≡◌, refl, ◌∙◌}
+use mathlib.Core.Path.{◌≡◌, refl}
 use mathlib.Core.List.{List}
 use Prim.Native.Nat.{ℕ}
 use Rattle.riff.specs.declared.writing.Width.{Width}

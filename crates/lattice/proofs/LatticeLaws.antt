@@ -198,8 +198,8 @@ module _ (odd : Bool) (p q : List Float) (xx xf xff : Float) (a1 a2 b1 b2 : List
 
 length_predicted : (odd : Bool) (p q : List Float) (n : ℕ) (xx xf xff : Float) (a1 a2 b1 b2 : List Float) → length (predicted odd p q n xx xf xff a1 a2 b1 b2) ≡ n
 unfolding predicted
-length_predicted odd p q zero xx xf xff a1 a2 b1 b2 = refl
-length_predicted odd p q (suc n) xx xf xff a1 a2 b1 b2 = ap suc (length_predicted odd p q n 0f xx xf (inputs (a_in odd xx xf) p a1 a2) a1 (inputs (b_in odd xx xf xff) q b1 b2) b1)
+length_predicted o p q zero xx xf xff a1 a2 b1 b2 = refl
+length_predicted o p q (suc n) xx xf xff a1 a2 b1 b2 = ap suc (length_predicted o p q n 0f xx xf (inputs (a_in o xx xf) p a1 a2) a1 (inputs (b_in o xx xf xff) q b1 b2) b1)
 
 -- ---- linear prediction as a whole
 

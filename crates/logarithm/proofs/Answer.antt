@@ -102,9 +102,9 @@ module _ (F μ : ℕ) (m : Float) (t : Fraction) (parts : Parts F μ m t) where
   pub only_turns : τ ≡ 0 → 1 ≤ K → Held (ltb F 1023) (turns F) (form k t)
   only_turns z p = record {
     z = Turns.sized F;
-    is = Turns.turns-are F parts.few;
+    is = Turns.turns_are F parts.few;
     N = K * L40 * D;
-    close = rw (form_under k t (ltb F 1023) K k_is parts.small) (close_more {i = 2} (lit≤ tt) (close_to (K * L40 * D) (ten40 * D) (mul-pos ten⁺ D⁺) (turn (K * L40) ten40 D) (Turns.turns-close F parts.few p)));
+    close = rw (form_under k t (ltb F 1023) K k_is parts.small) (close_more {i = 2} (lit≤ tt) (close_to (K * L40 * D) (ten40 * D) (mul-pos ten⁺ D⁺) (turn (K * L40) ten40 D) (Turns.turns_close F parts.few p)));
     same = form_turns k t (ltb F 1023) K k_is parts.small z;
   }
     where
@@ -130,11 +130,11 @@ module _ (F μ : ℕ) (m : Float) (t : Fraction) (parts : Parts F μ m t) where
 
     Λ-close : Close 8 Λ b D
     unfolding Λ
-    Λ-close = Near.near-close m μ τ Δ parts.value parts.least parts.most δ⁺ parts.cross parts.some parts.small large
+    Λ-close = Near.near_close m μ τ Δ parts.value parts.least parts.most δ⁺ parts.cross parts.some parts.small large
 
     near_is : near_one m ≡ turned (negative t.over) Λ
     unfolding Λ
-    near_is = Near.near-is m μ parts.value ∙ ap (λ (s : Bool). turned s (Near.sized (Near.ratio m μ))) (sym parts.sign)
+    near_is = Near.near_is m μ parts.value ∙ ap (λ (s : Bool). turned s (Near.sized (Near.ratio m μ))) (sym parts.sign)
 
     -- k is 0
     pub only_near : K ≡ 0 → Held (negative t.over) (0f ⊕ near_one m) (form k t)
@@ -163,7 +163,7 @@ module _ (F μ : ℕ) (m : Float) (t : Fraction) (parts : Parts F μ m t) where
 
       A-close : Close 2 A (K * L40) ten40
       unfolding A
-      A-close = Turns.turns-close F parts.few p
+      A-close = Turns.turns_close F parts.few p
 
       few : K ≤ 2047
       few = omega (arith, parts.few)
@@ -173,7 +173,7 @@ module _ (F μ : ℕ) (m : Float) (t : Fraction) (parts : Parts F μ m t) where
 
       turns_is : turns F ≡ turned (ltb F 1023) A
       unfolding A
-      turns_is = Turns.turns-are F parts.few
+      turns_is = Turns.turns_are F parts.few
 
       sum_is : turns F ⊕ near_one m ≡ turned (ltb F 1023) A ⊕ turned (negative t.over) Λ
       sum_is = ap (λ (y : Float). y ⊕ near_one m) turns_is ∙ ap (λ (y : Float). turned (ltb F 1023) A ⊕ y) near_is

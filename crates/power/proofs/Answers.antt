@@ -82,7 +82,7 @@ power_says a s = says (λ (r : Float). Within 44 (value_of r ×ᶠ power (value_
     first i e = let b = base a s i in power_within 1f a s 1_above b.above (level 8 (num 1f * num a ^ s) (den 1f * den a ^ s) (cc (1_whole, one_is a b.above e)))
 
     rest : T (power_inside a s) → T (positive (1f ⊘ products a a (s - 1))) × Within 44 (value_of (1f ⊘ products a a (s - 1)) ×ᶠ power (value_of a) s) (whole false 1)
-    rest i = let b = base a s i in PowerNear.near-one a s (s - 1) b (omega (arith, b.from))
+    rest i = let b = base a s i in PowerNear.near_one a s (s - 1) b (omega (arith, b.from))
 
 pub root_says : (a : Float) (s : ℕ) → T (fits binary64 a) → Says (power_inside a s) (RootHolds a s) (inverse_root_of a s)
 unfolding inverse_root_of
@@ -92,7 +92,7 @@ root_says a s f = says (λ (r : Float). Within 40 (power (value_of r) s ×ᶠ va
     first i e = let b = base a s i in root_within 1f a s 1_above b.above (level 24 (num 1f ^ s * num a) (den 1f ^ s * den a) (cc (1_whole, one_is a b.above e)))
 
     rest : T (power_inside a s) → T (positive (root_of_pattern (to_bits binary64 a) s)) × Within 40 (power (value_of (root_of_pattern (to_bits binary64 a) s)) s ×ᶠ value_of a) (whole false 1)
-    rest i = let b = base a s i in RootNear.near-one a s (to_bits binary64 a) b (bits a s f b)
+    rest i = let b = base a s i in RootNear.near_one a s (to_bits binary64 a) b (bits a s f b)
 
 -- both clauses of the contracts from the first
 pub power_meets : (a : Float) (s : ℕ) {r : Answer} → r ≡ inverse_power_of a s → (r ≡ inverse_power_of a s) × InversePower a s r

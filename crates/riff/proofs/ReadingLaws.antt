@@ -19,13 +19,10 @@ use Rattle.number.specs.Bytes.{number_of}
 use Rattle.number.proofs.Lists.{left_next, over, sets_front}
 use Rattle.riff.specs.declared.reading.Cursor.{Cursor}
 use Rattle.riff.specs.declared.reading.Step.{Step}
-use Rattle.riff.specs.declared.reading.Step.TheVariants as Step
 use Rattle.riff.specs.declared.reading.Step.TheVariants.{More, End}
 use Rattle.riff.specs.declared.reading.Sound.TheVariants.{Found}
 use Rattle.riff.specs.declared.reading.Sound.{Sound}
-use Rattle.riff.specs.declared.reading.Sound.TheVariants as Sound
 use Rattle.riff.specs.declared.reading.Ends.{Ends}
-use Rattle.riff.specs.declared.reading.Ends.TheVariants as Ends
 use Rattle.riff.specs.declared.reading.Ends.TheVariants.{At}
 use Rattle.riff.specs.Reading.{field, block_of, format_of, sampled_of, skipped_of, step_of, whole_of, on, walk_of, first, end_of, walk_to, chunks_of, SoundIn, signed_of, number_at, numbers_in, samples_in, numbers_of, Hears}
 

@@ -2,7 +2,6 @@
 use mathlib.Core.Path.{◌≡◌, refl, sym, ap, ◌∙◌}
 use mathlib.Core.List.{List, ◌++◌}
 use Prim.Native.Nat.{ℕ, ◌*◌, ◌≤◌}
-use native.Mathlib.Omega.{arith}
 use lib.IntN.{ℤ}
 use lib.ListN.{length}
 use lib.Ieee.{Float}
@@ -17,7 +16,7 @@ use Rattle.riff.specs.declared.reading.Sound.{Sound}
 use Rattle.riff.specs.Left.{left}
 use Rattle.riff.specs.Writing.{bytes_in, bits_in, held_in, file_of, refusal_of, Writes}
 use Rattle.riff.specs.Reading.{chunks_of, heard_of, numbers_of, Hears}
-use Rattle.riff.specs.Trip.{numbers_for, found_in, joined, held_in_parts, file_of_parts}
+use Rattle.riff.specs.Trip.{numbers_for, joined, held_in_parts, file_of_parts}
 use Rattle.riff.proofs.TripLaws.{file_parts, held_parts, trip_chunks, trip_samples, trip_numbers, length_numbers_for}
 
 -- ---- any two outcomes agree: whole writer, header, part and pad, and the reader

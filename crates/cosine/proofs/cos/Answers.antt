@@ -1,5 +1,5 @@
 -- `cos` meets its contract. Assumes nothing.
-use Rattle.std.proofs.Common.{◌≡◌, sym, ◌∙◌, subst, rules}
+use Rattle.std.proofs.Common.{◌≡◌, sym, ◌∙◌, subst}
 use Rattle.elementary.specs.Exact.{CosAnswer}
 use Rattle.elementary.specs.declared.answer.Answer.{Answer}
 use Rattle.cosine.specs.Cos.{cos_of}

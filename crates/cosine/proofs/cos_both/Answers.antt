@@ -1,5 +1,5 @@
 -- `cos_both` meets its contract: each cosine is that of its argument. Assumes nothing.
-use Rattle.std.proofs.Common.{◌≡◌, true, refl, rules}
+use Rattle.std.proofs.Common.{◌≡◌, true, refl}
 use Rattle.elementary.specs.Exact.{cos_inside}
 use Rattle.cosine.proofs.Inside.{answer_inside, both_inside, both_outside}
 use Rattle.cosine.proofs.cos_both.Goals as goal

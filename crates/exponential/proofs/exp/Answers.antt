@@ -1,5 +1,5 @@
 -- `exp` meets its contract: its parts, joined. Assumes nothing.
-use Rattle.std.proofs.Common.{T, sym, ◌∙◌, subst, rules}
+use Rattle.std.proofs.Common.{T, sym, ◌∙◌, subst}
 use Rattle.exponential.proofs.Branches.{answered}
 use Rattle.exponential.proofs.exp.Goals as goal
 

@@ -1,5 +1,5 @@
 -- `inside` meets its contract. Assumes nothing.
-use Rattle.std.proofs.Common.{◌*◌, ap, ◌∙◌, rules}
+use Rattle.std.proofs.Common.{◌*◌, ap, ◌∙◌}
 use lib.Ieee.{Float}
 use Rattle.number.specs.F64.{◌⊗◌}
 use Rattle.exponential.specs.Exp.{multiples, rest_of, sum_at}

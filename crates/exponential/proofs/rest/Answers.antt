@@ -1,11 +1,11 @@
 -- `rest` meets its contract: the size by the case that gave it, the sign by what the bits add up to. Assumes nothing.
-use Rattle.std.proofs.Common.{◌≡◌, ℕ, ◌+◌, ◌-◌, ◌*◌, ◌/◌, ◌%◌, ◌^◌, ◌<◌, ◌≤◌, Bool, true, false, cond, not, T, ltb, sym, refl, ap, ◌∙◌, subst, ⊎_elim, lt_of_not-le, arith, le→leb, rules, ltb-false, ltb-true, le-ltb, lt-ltb}
+use Rattle.std.proofs.Common.{◌≡◌, ℕ, ◌+◌, ◌-◌, ◌*◌, ◌/◌, ◌%◌, ◌^◌, ◌<◌, ◌≤◌, Bool, true, false, cond, not, T, ltb, sym, refl, ap, ◌∙◌, subst, lt_of_not-le, arith, le→leb, ltb-false, ltb-true, le-ltb, lt-ltb}
 use native.Mathlib.Decide.{dec_le}
 use lib.Ieee.{binary64, in_float, nan_bits, neg, of_bits, unlike}
 use Rattle.number.specs.F64.{−◌}
 use Rattle.exponential.specs.Exp.{unit, rest_of}
 use Rattle.exponential.proofs.rest.Goals as goal
-use Rattle.exponential.proofs.rest.Goals.{Joined-negative, Joined-u-m}
+use Rattle.exponential.proofs.rest.Goals.{Joined-negative, Joined-u-m, then-negative, else-negative, then-u-m, else-u-m}
 
 abbrev bit : Bool → ℕ
 bit b = cond b 1 0
@@ -42,17 +42,17 @@ pub overflow_sub-size : goal.overflow_sub-size
 overflow_sub-size c = omega (arith, ltb-true)
 
 size_is : (c : Joined-u-m) → c.if-u-m.size ≡ (c.args.u - c.args.m) + (c.args.m - c.args.u)
-size_is c = ⊎_elim (λ w. omega (arith, ltb-true)) (λ w. omega (arith, ltb-false)) c.if-u-m.branch
+size_is c = elim c.if-u-m.branch [ then-u-m w ↦ omega (arith, ltb-true) | else-u-m w ↦ omega (arith, ltb-false) ]
 
 sign_is : (c : Joined-negative) → c.if-negative.sign ≡ bit c.args.negative
-sign_is c = ⊎_elim (λ w. w.1 ∙ sym (ap bit w.0.taken)) (λ w. w.1 ∙ sym (ap bit w.0.left)) c.if-negative.branch
+sign_is c = elim c.if-negative.branch [ then-negative w ↦ w.sign-is ∙ sym (ap bit w.if-negative.true) | else-negative w ↦ w.sign-is ∙ sym (ap bit w.if-negative.false) ]
 
-abbrev sign : tie.Joined2 → Bool
-sign c = let a = c.before.before.before.args in unlike (ltb a.u a.m) a.negative
+abbrev sign : Joined-u-m → Bool
+sign c = unlike (ltb c.args.u c.args.m) c.args.negative
 
 sum_is : (c : Joined-u-m) → (c.if-negative.sign + c.wrapping_sub_u64-over.result / 9223372036854775808) % 2 ≡ bit (sign c)
 sum_is c =
-    rw (sign_is c.Joined-negative, over_is c.args.u c.args.m c.wrapping_sub_u64-over.result (omega arith) (omega arith) c.wrapping_sub_u64-over.ensures c.requires)
+    rw (sign_is c.before, over_is c.args.u c.args.m c.wrapping_sub_u64-over.result (omega arith) (omega arith) c.wrapping_sub_u64-over.ensures.value c.requires)
     (turned c.args.negative (ltb c.args.u c.args.m))
 
 one_bit : (c : Joined-negative) → c.if-negative.sign ≤ 1

@@ -1,15 +1,12 @@
 -- `split` meets its contract, branch by branch. Assumes nothing.
 use Rattle.std.proofs.Common.{◌≡◌, ℕ, ◌^◌, ◌≤◌, Bool, T, leb, sym, ap, ◌∙◌, subst}
-use lib.Ieee.{binary64, fits, of_bits, div, to_bits}
+use lib.Ieee.{binary64, of_bits, div, to_bits}
 use Rattle.exponential.specs.Exp.{units, inside_of}
 use Rattle.exponential.proofs.Guess.{Nearest, limit}
 use Rattle.exponential.proofs.Branches.{at_nan, above, below, Inside, inside, not_nan, bits_most, sign_is, units_are, units_small, rest_small, inside_is}
 use Rattle.exponential.proofs.Together.{joined_nan, joined_infinity, joined_none}
 use Rattle.exponential.proofs.split.Goals as goal
-use Rattle.exponential.proofs.split.Goals.{After-nearest, After-units-u, Else-x-3, Start}
-
-held : (c : Start) → T (fits binary64 c.args.x)
-held c = subst T (sym c.well_formed.0.1) tt
+use Rattle.exponential.proofs.split.Goals.{After-nearest, After-units-u, Else-x-3}
 
 pub returns-then-x : goal.returns-then-x
 returns-then-x c = joined_nan c.args.x c.if-x.true ∙ at_nan c.args.x c.if-x.true
@@ -25,7 +22,7 @@ returns-then-x-3 c =
 
 -- past the tests the argument is inside
 within : (c : Else-x-3) → Inside c.args.x
-within c = inside c.args.x (held c.Start) c.if-x.false c.if-x-2.false c.if-x-3.false
+within c = inside c.args.x (subst T (sym c.well_formed.0.1) tt) c.if-x.false c.if-x-2.false c.if-x-3.false
 
 pub float_to_bits-b : goal.float_to_bits-b
 float_to_bits-b c = not_nan c.args.x c.if-x.false
@@ -35,13 +32,13 @@ units-u-requires c = bits_most c.args.x (within c)
 
 -- the units are the definition's, and so is what is nearest to them
 units_of : (c : After-units-u) → c.units-u.result ≡ units c.args.x
-units_of c = c.units-u.ensures ∙ units_are c.args.x (within c.Else-x-3)
+units_of c = c.units-u.ensures ∙ units_are c.args.x (within c.before)
 
 pub nearest-requires : goal.nearest-requires
 nearest-requires c = subst (λ (u : ℕ). u ≤ limit) (sym (units_of c)) (units_small c.args.x (within (goal.at.nearest-requires c).Else-x-3))
 
 nearest_of : (c : After-nearest) → Nearest (units c.args.x) c.nearest.result
-nearest_of c = subst (λ (u : ℕ). Nearest u c.nearest.result) (units_of c.After-units-u) c.nearest.ensures
+nearest_of c = subst (λ (u : ℕ). Nearest u c.nearest.result) (units_of c.before) c.nearest.ensures
 
 pub inside-requires : goal.inside-requires
 inside-requires c = (c.nearest.ensures.0, rw (units_of (goal.at.inside-requires c).After-units-u) (rest_small c.args.x (within (goal.at.inside-requires c).Else-x-3) c.nearest.result (nearest_of c)))

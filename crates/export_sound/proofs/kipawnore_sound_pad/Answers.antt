@@ -1,12 +1,11 @@
 -- `kipawnore_sound_pad`: by the bits. Assumes nothing.
 use mathlib.Core.Path.{sym, ◌∙◌}
-use borrow.Author.Rules.{rules}
 use Rattle.export_sound.proofs.SoundLaws.{no_width, of_width}
 use Rattle.export_sound.proofs.kipawnore_sound_pad.Goals as goal
 
 pub returns-in_default : goal.returns-in_default
-returns-in_default c = no_width _ _ _ _ _ (sym c.width_of_lem.ensures ∙ c.in_default.is) c.refused_by.ensures
+returns-in_default c = no_width _ _ _ _ _ (sym c.width_of-asked.ensures ∙ c.in_default.is) c.refused_by.ensures
 
 pub returns : goal.returns
 returns c =
-    of_width _ _ _ _ _ _ _ (sym c.width_of_lem.ensures ∙ c.in-For.is) c.pad.ensures
+    of_width _ _ _ _ _ _ _ (sym c.width_of-asked.ensures ∙ c.in-For.is) c.pad.ensures

@@ -1,5 +1,4 @@
 -- `start` meets its contract: each lane has its first two taps. Assumes nothing.
-use borrow.Author.Rules.{rules}
 use native.Mathlib.Omega.{arith}
 use Rattle.lanes.specs.Lane.{lane}
 use Rattle.lanes.proofs.LaneLaws.{each_lane}

@@ -1,5 +1,4 @@
 -- `tap` meets its contract: each lane has its tap. Assumes nothing.
-use borrow.Author.Rules.{rules}
 use native.Mathlib.Omega.{arith}
 use lib.ListN.{length}
 use Rattle.lanes.specs.Lane.{lane}

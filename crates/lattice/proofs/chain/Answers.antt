@@ -1,15 +1,10 @@
 -- `chain` meets its contract: what the sections that are left make is what all of them make. Assumes nothing.
-use mathlib.Core.Path.{◌≡◌, refl, sym, ◌∙◌}
-use mathlib.Core.List.{◌++◌}
-use Prim.Native.Nat.{◌-◌, ◌≤◌}
+use mathlib.Core.Path.{refl, sym, ◌∙◌}
 use native.Mathlib.Omega.{arith}
-use lib.ListN.{length, take, drop, length-set}
+use lib.ListN.{take, length-set}
 use lib.Seq.{take_all}
-use Rattle.number.specs.Lists.{over}
 use Rattle.number.proofs.Lists.{over_end}
-use Rattle.lattice.specs.Lattice.{inputs, output}
 use Rattle.lattice.proofs.LatticeLaws.{inputs_turn, output_turn, inputs_done, output_done, shifted_turn}
-use borrow.Author.Rules.{rules}
 use Rattle.lattice.proofs.chain.Goals as goal
 
 pub loop-i-init : goal.loop-i-init

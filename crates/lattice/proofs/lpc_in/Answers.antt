@@ -4,7 +4,6 @@ use native.Mathlib.Omega.{arith}
 use lib.ListN.{length, length-replicate}
 use Rattle.number.specs.F64.{0f}
 use Rattle.lattice.proofs.LatticeLaws.{lpc_made, lpc_inside}
-use borrow.Author.Rules.{rules}
 use Rattle.lattice.proofs.lpc_in.Goals as goal
 
 pub returns-in_default : goal.returns-in_default
@@ -16,8 +15,8 @@ pub predict-requires : goal.predict-requires
 predict-requires c =
     let l1 = ap length c.requires.a1_value.0 ∙ length-replicate (length c.args.p.now) 0f in
     let l2 = ap length c.requires.a1_value.1 ∙ length-replicate (length c.args.p.now) 0f in
-    let m1 = ap length c.requires.b1_value ∙ length-replicate (length c.args.q.now) 0f in
-    let m2 = ap length c.requires.p_len.1.1.1 ∙ length-replicate (length c.args.q.now) 0f in
+    let m1 = ap length c.requires.b1_value.0 ∙ length-replicate (length c.args.q.now) 0f in
+    let m2 = ap length c.requires.b1_value.1 ∙ length-replicate (length c.args.q.now) 0f in
     let kp : length c.weights-cosines.new.p ≡ length c.args.p.now = c.weights-cosines.auto.p in
     let kq : length c.weights-cosines.new.q ≡ length c.args.q.now = c.weights-cosines.auto.q in
     record { a1_len = (l1 ∙ sym kp, l2 ∙ sym kp); b1_len = (m1 ∙ sym kq, m2 ∙ sym kq, omega arith) }
@@ -33,5 +32,5 @@ returns c =
     let kq : length c.weights-cosines.new.q ≡ length c.args.q.now = c.weights-cosines.auto.q in
     let made = c.weights-cosines.ensures.lsp_value_2 c.in-Inside.is in
     let d = lpc_inside c.args.lsp.now _ _ made.0 made.1 in
-    let e = lpc_made (length c.args.lsp.now) (length c.args.lpc.now) _ _ c.args.a1.now c.args.a2.now c.args.b1.now c.args.b2.now _ c.requires.lsp_len_bound.1 (rw kp c.requires.a1_value.0) (rw kp c.requires.a1_value.1) (rw kq c.requires.b1_value) (rw kq c.requires.p_len.1.1.1) c.predict.ensures in
+    let e = lpc_made (length c.args.lsp.now) (length c.args.lpc.now) _ _ c.args.a1.now c.args.a2.now c.args.b1.now c.args.b2.now _ c.requires.lsp_len_bound.1 (rw kp c.requires.a1_value.0) (rw kp c.requires.a1_value.1) (rw kq c.requires.b1_value.0) (rw kq c.requires.b1_value.1) c.predict.ensures in
     record { value = rw d refl; lpc_after = rw d e }

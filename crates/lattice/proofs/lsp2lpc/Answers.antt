@@ -5,7 +5,6 @@ use native.Mathlib.Omega.{arith}
 use lib.ListN.{length, replicate}
 use Rattle.number.specs.F64.{0f}
 use Rattle.lattice.proofs.LatticeLaws.{front_zeros, length_front}
-use borrow.Author.Rules.{rules}
 use Rattle.lattice.proofs.lsp2lpc.Goals as goal
 
 pub lpc_in-requires : goal.lpc_in-requires

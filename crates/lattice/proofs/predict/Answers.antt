@@ -1,13 +1,9 @@
 -- `predict` meets its contract: what is made, with what the turns that are left make, is what all of them make. Assumes nothing.
 use mathlib.Core.Path.{◌≡◌, refl, sym, ◌∙◌}
-use mathlib.Core.List.{◌++◌}
-use Prim.Native.Nat.{◌-◌, ◌≤◌}
+use Prim.Native.Nat.{◌-◌}
 use native.Mathlib.Omega.{arith}
-use lib.ListN.{length, take, length-set}
-use Rattle.number.specs.F64.{0f, 1f}
-use Rattle.lattice.specs.Lattice.{predicted}
+use lib.ListN.{length, length-set}
 use Rattle.lattice.proofs.LatticeLaws.{predict_turn, predict_done}
-use borrow.Author.Rules.{rules}
 use Rattle.lattice.proofs.predict.Goals as goal
 
 pub loop-k-init : goal.loop-k-init

@@ -1,11 +1,9 @@
 -- `weights` meets its contract: the entries that are left decide. Assumes nothing.
-use mathlib.Core.Path.{◌≡◌, refl, ◌∙◌}
-use Prim.Native.Nat.{ℕ, ◌+◌, ◌-◌, ◌/◌, ◌≤◌}
-use native.Mathlib.Omega.{arith}
-use lib.ListN.{length, drop, length-set, length-drop}
+use mathlib.Core.Path.{◌≡◌}
+use Prim.Native.Nat.{◌-◌, ◌≤◌}
+use lib.ListN.{length, drop}
 use Rattle.lattice.specs.Lattice.{every_other}
-use Rattle.lattice.proofs.LatticeLaws.{length_every_other, Weighed, weighed_none, weighed_all, last_outside, last_more, turn_outside, turn_more}
-use borrow.Author.Rules.{rules}
+use Rattle.lattice.proofs.LatticeLaws.{Weighed}
 use Rattle.lattice.proofs.weights.Given as goal
 
 abbrev pub invariant-loop-i : goal.invariant-loop-i

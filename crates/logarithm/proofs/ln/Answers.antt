@@ -35,9 +35,7 @@ unfolding ln_of
 at_outside x e = rw e refl
 
 pub returns-then-x-2 : goal.returns-then-x-2
-returns-then-x-2 c =
-    let r = c.ln_inside.ensures in
-    record { value = r.0; ln_answer = r.1 }
+returns-then-x-2 c = record { value = c.ln_inside.ensures.result_value; ln_answer = c.ln_inside.ensures.ln_answer }
 
 pub returns-else-x-2 : goal.returns-else-x-2
 unfolding of_bits div

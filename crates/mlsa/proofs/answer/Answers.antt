@@ -1,5 +1,4 @@
 -- `answer` meets its contract: the answers are weighed one after the other. Assumes nothing.
-use borrow.Author.Rules.{rules}
 use mathlib.Core.Path.{refl}
 use native.Mathlib.Omega.{arith}
 use lib.ListN.{length-set}

@@ -1,10 +1,9 @@
 -- `df1` meets its contract: the rows that are left make of the part here what all five make of it at the start. Assumes nothing.
-use borrow.Author.Rules.{rules}
-use mathlib.Core.Path.{◌≡◌, refl, sym, ap, ◌∙◌}
-use Prim.Native.Nat.{◌+◌, ◌-◌, ◌≤◌}
+use mathlib.Core.Path.{refl, sym, ap, ◌∙◌}
+use Prim.Native.Nat.{◌+◌, ◌-◌}
 use native.Mathlib.Omega.{arith}
-use lib.ListN.{length, length-set}
-use Rattle.mlsa.specs.Mlsa.{part, first_row, downward, ended, df1_of}
+use lib.ListN.{length-set}
+use Rattle.mlsa.specs.Mlsa.{downward, ended, df1_of}
 use Rattle.mlsa.proofs.MlsaLaws.{down_turn, down_end}
 use Rattle.mlsa.proofs.df1.Goals as goal
 

@@ -1,11 +1,8 @@
 -- `df1` meets its contract: the rows that are left make of the part here what all five make of it at the start. Assumes nothing.
-use borrow.Author.Rules.{rules}
-use mathlib.Core.Path.{◌≡◌, refl, sym, ap, ◌∙◌}
-use Prim.Native.Nat.{◌+◌, ◌-◌, ◌≤◌}
-use native.Mathlib.Omega.{arith}
-use lib.ListN.{length, length-set}
-use Rattle.mlsa.specs.Mlsa.{part, first_row, downward, ended, df1_of}
-use Rattle.mlsa.proofs.MlsaLaws.{down_turn, down_end}
+use mathlib.Core.Path.{◌≡◌}
+use Prim.Native.Nat.{◌-◌, ◌≤◌}
+use lib.ListN.{length}
+use Rattle.mlsa.specs.Mlsa.{part, first_row, downward}
 use Rattle.mlsa.proofs.df1.Given as goal
 
 abbrev pub invariant-loop-turn : goal.invariant-loop-turn

@@ -1,11 +1,10 @@
 -- `df2_laid` meets its contract: all five rows, and what their answers come to. Assumes nothing.
-use borrow.Author.Rules.{rules}
 use mathlib.Core.Path.{refl}
 use Rattle.mlsa.proofs.LaidLaws.{df2_laid, heads_at}
 use Rattle.mlsa.proofs.df2_laid.Goals as goal
 
 pub answer-requires : goal.answer-requires
-answer-requires c = c.requires.d22_len
+answer-requires c = c.requires.d22_len.0
 
 pub returns : goal.returns
 returns c =

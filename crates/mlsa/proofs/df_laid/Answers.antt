@@ -1,5 +1,4 @@
 -- `df_laid` meets its contract: one part, and then the other. Assumes nothing.
-use borrow.Author.Rules.{rules}
 use Rattle.mlsa.proofs.MlsaLaws.{df_of_lem}
 use Rattle.mlsa.proofs.df_laid.Goals as goal
 

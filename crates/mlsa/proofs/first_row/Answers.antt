@@ -1,5 +1,4 @@
 -- `first_row` meets its contract. Assumes nothing.
-use borrow.Author.Rules.{rules}
 use mathlib.Core.Path.{refl}
 use Rattle.mlsa.specs.Mlsa.{first_row}
 use Rattle.mlsa.proofs.first_row.Goals as goal

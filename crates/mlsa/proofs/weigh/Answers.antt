@@ -1,5 +1,4 @@
 -- `weigh` meets its contract. Assumes nothing.
-use borrow.Author.Rules.{rules}
 use mathlib.Core.Path.{refl}
 use borrow.Author.Tests.{eq-eqb, ne_eqb}
 use Rattle.mlsa.specs.Mlsa.{weighed}

@@ -1,10 +1,9 @@
 -- `held_16`: `is_held` with the ends of its width. Assumes nothing.
 use mathlib.Core.Path.{refl}
-use borrow.Author.Rules.{rules}
 use lib.Dec.{lit≤}
 use lib.Ieee.{of_bits, neg}
 use Rattle.pcm.proofs.held_16.Goals as goal
 
 pub returns : goal.returns
 unfolding of_bits neg
-returns c = c.is_held_lem.ensures 15 (record { from = lit≤ tt; upto = lit≤ tt; scaling = refl; bottom = refl; top = refl })
+returns c = c.is_held.ensures 15 (record { from = lit≤ tt; upto = lit≤ tt; scaling = refl; bottom = refl; top = refl })

@@ -1,12 +1,8 @@
 -- `put_16`: `Made` at 2 bytes a sample. Assumes nothing.
-use mathlib.Core.Path.{◌∙◌, ap}
-use mathlib.Core.Bool.{Bool, cond}
-use Prim.Native.Nat.{◌-◌, ◌*◌}
-use borrow.Author.Rules.{rules}
-use native.Mathlib.Omega.{arith}
-use lib.ListN.{length, length-set}
+use Prim.Native.Nat.{◌-◌}
+use lib.ListN.{length}
 use Rattle.pcm.specs.Sample.{is_held, word_of}
-use Rattle.pcm.proofs.SamplesLaws.{Made, made_start, made_turn, made_end, two_stored}
+use Rattle.pcm.proofs.SamplesLaws.{Made}
 use Rattle.pcm.proofs.put_16.Given as goal
 
 abbrev pub invariant-loop-i : goal.invariant-loop-i

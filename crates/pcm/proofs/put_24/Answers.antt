@@ -1,12 +1,11 @@
 -- `put_24`: `Made` at 3 bytes a sample. Assumes nothing.
 use mathlib.Core.Path.{◌∙◌, ap}
 use mathlib.Core.Bool.{Bool, cond}
-use Prim.Native.Nat.{◌-◌, ◌*◌}
-use borrow.Author.Rules.{rules}
+use Prim.Native.Nat.{◌*◌}
 use native.Mathlib.Omega.{arith}
-use lib.ListN.{length, length-set}
+use lib.ListN.{length-set}
 use Rattle.pcm.specs.Sample.{is_held, word_of}
-use Rattle.pcm.proofs.SamplesLaws.{Made, made_start, made_turn, made_end, three_stored}
+use Rattle.pcm.proofs.SamplesLaws.{made_start, made_turn, made_end, three_stored}
 use Rattle.pcm.proofs.put_24.Goals as goal
 
 pub loop-i-init : goal.loop-i-init

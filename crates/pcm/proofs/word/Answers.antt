@@ -1,5 +1,4 @@
 -- `word`: the law of its three steps and its sum. Assumes nothing.
-use borrow.Author.Rules.{rules}
 use Rattle.pcm.proofs.SampleLaws.{word_of_lem}
 use Rattle.pcm.proofs.word.Goals as goal
 

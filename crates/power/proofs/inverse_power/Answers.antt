@@ -3,7 +3,6 @@ use mathlib.Core.Path.{◌≡◌, sym, ap, ◌∙◌}
 use mathlib.Core.Bool.{true}
 use Prim.Native.Nat.{◌-◌}
 use lib.Ieee.{Float}
-use borrow.Author.Tests.{not-true, not-false}
 use Rattle.number.specs.F64.{1f, ◌⊘◌}
 use Rattle.elementary.specs.Exact.{power_inside}
 use Rattle.elementary.specs.declared.answer.Answer.TheVariants.{Inside}
@@ -15,12 +14,12 @@ use Rattle.power.proofs.inverse_power.Goals.{Else-not-inside}
 
 -- past the first test
 arguments_inside : (c : Else-not-inside) → power_inside c.args.a c.args.s ≡ true
-arguments_inside c = sym c.inside.ensures ∙ not-false c.inside.result c.if-not-inside.false
+arguments_inside c = sym c.inside.ensures ∙ c.if-not-inside.false
 
 pub returns-then-not-inside : goal.returns-then-not-inside
 unfolding inverse_power_of
 returns-then-not-inside c =
-    let r = power_meets c.args.a c.args.s (at_outside c.args.a c.args.s (1f ⊘ products c.args.a c.args.a (c.args.s - 1)) (sym c.inside.ensures ∙ not-true c.inside.result c.if-not-inside.true)) in
+    let r = power_meets c.args.a c.args.s (at_outside c.args.a c.args.s (1f ⊘ products c.args.a c.args.a (c.args.s - 1)) (sym c.inside.ensures ∙ c.if-not-inside.true)) in
     record { value = r.0; inverse_power = r.1 }
 
 pub returns-then-a : goal.returns-then-a

@@ -3,7 +3,6 @@ use mathlib.Core.Path.{◌≡◌, sym, ap, ◌∙◌, subst}
 use mathlib.Core.Bool.{true}
 use lib.Dec.{T}
 use lib.Ieee.{Float, binary64, fits, to_bits}
-use borrow.Author.Tests.{not-true, not-false}
 use Rattle.elementary.specs.Exact.{power_inside}
 use Rattle.elementary.specs.declared.answer.Answer.TheVariants.{Inside}
 use Rattle.power.specs.Power.{root_of_pattern, inverse_root_of}
@@ -20,15 +19,15 @@ held c = subst T (sym c.well_formed.0.1) tt
 
 -- past the first test
 arguments_inside : (c : Else-not-inside) → power_inside c.args.a c.args.s ≡ true
-arguments_inside c = sym c.inside.ensures ∙ not-false c.inside.result c.if-not-inside.false
+arguments_inside c = sym c.inside.ensures ∙ c.if-not-inside.false
 
 based : (c : Else-a) → Base c.args.a c.args.s
-based c = base_of c.args.a c.args.s (arguments_inside c.Else-not-inside)
+based c = base_of c.args.a c.args.s (arguments_inside c.before)
 
 pub returns-then-not-inside : goal.returns-then-not-inside
 unfolding inverse_root_of
 returns-then-not-inside c =
-    let r = root_meets c.args.a c.args.s (held (goal.at.returns-then-not-inside c).Start) (at_outside c.args.a c.args.s (root_of_pattern (to_bits binary64 c.args.a) c.args.s) (sym c.inside.ensures ∙ not-true c.inside.result c.if-not-inside.true)) in
+    let r = root_meets c.args.a c.args.s (held (goal.at.returns-then-not-inside c).Start) (at_outside c.args.a c.args.s (root_of_pattern (to_bits binary64 c.args.a) c.args.s) (sym c.inside.ensures ∙ c.if-not-inside.true)) in
     record { value = r.0; inverse_root = r.1 }
 
 pub returns-then-a : goal.returns-then-a

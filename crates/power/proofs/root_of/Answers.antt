@@ -10,7 +10,8 @@ use Rattle.power.specs.Power.{root_of_pattern}
 use Rattle.power.proofs.root_of.Goals as goal
 use Rattle.power.proofs.root_of.Goals.{Start}
 
-pub record Small (t s : ℕ) : Type 0 where
+-- the exponent of v, and what the answer's exponent is made of
+record Small (t s : ℕ) : Type 0 where
   pub rest : t % s < s
   pub turns : t / s ≤ 960
   pub all : 840 / s ≤ 840
@@ -19,7 +20,7 @@ small : (c : Start) → Small (c.args.b / H - 183) c.args.s
 small c =
     let t = c.args.b / H - 183 in
     record {
-      rest = mod-lt t c.requires.fact_2;
+      rest = mod-lt t c.requires.fact_2.0;
       turns = le_trans (div-le_self t c.args.s) (omega arith);
       all = div-le_self 840 c.args.s;
     }

@@ -1,19 +1,10 @@
 -- `check_lsp_stability` meets its contract: the passes, and in a pass the gaps, that are left make what all of them make. Assumes nothing.
-use lib.IntN.{pos}
-use lib.Ieee.{binary64, of_int}
-use Rattle.number.specs.F64.{◌⊗◌, ◌⊘◌}
-use Rattle.stability.specs.Stability.{PI, ¼f}
-use mathlib.Core.Path.{◌≡◌, refl, sym, ap, ◌∙◌}
+use mathlib.Core.Path.{◌≡◌}
 use mathlib.Core.Bool.{false}
-use mathlib.Core.Logic.{⊎_elim}
 use Prim.Native.Nat.{◌+◌, ◌-◌, ◌≤◌}
-use native.Mathlib.Omega.{arith}
-use lib.ListN.{length, set, length-set}
-use Rattle.stability.specs.Stability.{least_gap, gap, gaps, low_end, pass_of, passes_of, stable_of}
-use Rattle.stability.proofs.StabilityLaws.{at, gap_found, gap_stays, low_found, low_stays, high_found, high_stays, gaps_turn, gaps_done, pass_made, pass_found, pass_last, passes_done}
-use Rattle.number.proofs.Floats.{small_float}
-use borrow.Author.Rules.{rules}
-use borrow.Author.Tests.{not-true, not-false}
+use lib.ListN.{length}
+use Rattle.stability.specs.Stability.{gaps, passes_of}
+use Rattle.stability.proofs.StabilityLaws.{at}
 use Rattle.stability.proofs.check_lsp_stability.Given as goal
 
 abbrev pub invariant-loop-j : goal.invariant-loop-j

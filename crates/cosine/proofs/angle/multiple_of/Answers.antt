@@ -1,5 +1,5 @@
 -- `multiple_of`: the lower word of a sum is that of the lower words. Assumes nothing.
-use Rattle.std.proofs.Common.{◌*◌, ◌/◌, ◌^◌, ◌∙◌, rules}
+use Rattle.std.proofs.Common.{◌*◌, ◌/◌, ◌^◌, ◌∙◌}
 use Rattle.cosine.specs.Cos.{turn, multiple}
 use Rattle.cosine.proofs.Words.{lower_sum}
 use Rattle.cosine.proofs.angle.multiple_of.Goals as goal

@@ -1,5 +1,5 @@
 -- `rest`: its words are those of the definition's numbers. Assumes nothing.
-use Rattle.std.proofs.Common.{◌≡◌, ℕ, ◌*◌, ◌/◌, ◌^◌, ◌≤◌, sym, arith, rules}
+use Rattle.std.proofs.Common.{◌≡◌, ℕ, ◌*◌, ◌/◌, ◌^◌, ◌≤◌, sym, arith}
 use Rattle.root.specs.Parts.{pattern_units}
 use Rattle.cosine.specs.Cos.{one, gap}
 use Rattle.cosine.proofs.Pattern.{units_most, whole_part}
@@ -19,7 +19,7 @@ whole c = whole_part c.args.b c.units.result c.requires c.units.ensures
 -- the distance
 far : (c : After-distance-far) → c.distance-far.result ≡ gap (u c.args.b) (multiple_at c.units.result)
 far c =
-    c.distance-far.ensures (u c.args.b) (multiple_at c.units.result) (sym c.units-2.ensures) (sym c.multiple_of.ensures) (gap_small (u c.args.b) c.units.result (most c.Start) (whole c.After-units))
+    c.distance-far.ensures (u c.args.b) (multiple_at c.units.result) (sym c.units-2.ensures) (sym c.multiple_of.ensures) (gap_small (u c.args.b) c.units.result (units_most c.args.b c.requires) (whole_part c.args.b c.units.result c.requires c.units.ensures))
 
 pub overflow_mul-k : goal.overflow_mul-k
 overflow_mul-k c = let r = turns_room (u c.args.b) c.units.result (most (goal.at.overflow_mul-k c).Start) (whole c) in omega arith

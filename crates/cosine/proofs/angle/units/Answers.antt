@@ -1,5 +1,5 @@
 -- `units`: the digits moved up, moved down, or gone. Assumes nothing.
-use Rattle.std.proofs.Common.{ℕ, ◌+◌, ◌-◌, ◌/◌, ◌%◌, ◌^◌, sym, ap, ◌∙◌, mod-eq_of_lt, arith, rules}
+use Rattle.std.proofs.Common.{ℕ, ◌+◌, ◌-◌, ◌/◌, ◌%◌, ◌^◌, sym, ap, ◌∙◌, mod-eq_of_lt, arith}
 use Rattle.root.proofs.Parts.{H}
 use Rattle.cosine.proofs.Pattern.{moved_up, moved_down, vanished, word_of_digits}
 use Rattle.cosine.proofs.angle.units.Goals as goal

@@ -1,5 +1,5 @@
 -- `cos_of_square` meets its contract: a quotient of a quotient is one quotient, and what it leaves of 1 has room. Assumes nothing.
-use Rattle.std.proofs.Common.{◌≡◌, ◌*◌, ◌/◌, le_of_lt, rules}
+use Rattle.std.proofs.Common.{◌≡◌, ◌*◌, ◌/◌, le_of_lt}
 use Rattle.cosine.specs.Cos.{one}
 use Rattle.cosine.proofs.Products.{half_is, half_room, one_less_below, one_less_above}
 use Rattle.cosine.proofs.sum.cos_of_square.Goals as goal

@@ -1,5 +1,5 @@
 -- `float_of`: the whole number is at most 2 ^ 53, and the product is exact. Assumes nothing.
-use Rattle.std.proofs.Common.{◌+◌, ◌/◌, ◌^◌, arith, le→leb, rules}
+use Rattle.std.proofs.Common.{◌+◌, ◌/◌, ◌^◌, arith, le→leb}
 use lib.Ieee.{in_float, of_bits}
 use Rattle.cosine.specs.Cos.{float_of}
 use Rattle.cosine.proofs.Products.{over-2^51}

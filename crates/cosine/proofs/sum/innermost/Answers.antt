@@ -1,5 +1,5 @@
 -- `innermost` meets its contract, step by step, for each of the two. Assumes nothing.
-use Rattle.std.proofs.Common.{refl, arith, rules}
+use Rattle.std.proofs.Common.{refl, arith}
 use Rattle.cosine.specs.Cos.{alternating}
 use Rattle.cosine.proofs.sum.innermost.Goals as goal
 
@@ -8,4 +8,4 @@ step_both-requires c = omega (arith, c.requires)
 
 pub returns : goal.returns
 unfolding alternating
-returns c = record { first_value = (rw (c.step_both.ensures.first_value.0, c.step_both-p22.ensures.first_value.0, c.step_both-p23.ensures.first_value.0, c.step_both-p24.ensures.first_value.0, c.step_both-p25.ensures.first_value.0, c.step_both-p26.ensures.first_value.0, c.step_both-p27.ensures.first_value.0, c.step_both-p28.ensures.first_value.0, c.step_both-p29.ensures.first_value.0, c.step_both-p30.ensures.first_value.0) refl, c.step_both.ensures.first_value.1); second_value = (rw (c.step_both.ensures.second_value, c.step_both-p22.ensures.second_value, c.step_both-p23.ensures.second_value, c.step_both-p24.ensures.second_value, c.step_both-p25.ensures.second_value, c.step_both-p26.ensures.second_value, c.step_both-p27.ensures.second_value, c.step_both-p28.ensures.second_value, c.step_both-p29.ensures.second_value, c.step_both-p30.ensures.second_value) refl, c.step_both.ensures.REST) }
+returns c = record { first_value = (rw (c.step_both.ensures.first_value.0, c.step_both-p22.ensures.first_value.0, c.step_both-p23.ensures.first_value.0, c.step_both-p24.ensures.first_value.0, c.step_both-p25.ensures.first_value.0, c.step_both-p26.ensures.first_value.0, c.step_both-p27.ensures.first_value.0, c.step_both-p28.ensures.first_value.0, c.step_both-p29.ensures.first_value.0, c.step_both-p30.ensures.first_value.0) refl, c.step_both.ensures.first_value.1); second_value = (rw (c.step_both.ensures.second_value.0, c.step_both-p22.ensures.second_value.0, c.step_both-p23.ensures.second_value.0, c.step_both-p24.ensures.second_value.0, c.step_both-p25.ensures.second_value.0, c.step_both-p26.ensures.second_value.0, c.step_both-p27.ensures.second_value.0, c.step_both-p28.ensures.second_value.0, c.step_both-p29.ensures.second_value.0, c.step_both-p30.ensures.second_value.0) refl, c.step_both.ensures.second_value.1) }

@@ -1,5 +1,4 @@
 -- `square` meets its contract: the factors are small enough to be moved up. Assumes nothing.
-use Rattle.std.proofs.Common.{rules}
 use Rattle.cosine.proofs.Products.{square_is, small_square}
 use Rattle.cosine.proofs.sum.square.Goals as goal
 

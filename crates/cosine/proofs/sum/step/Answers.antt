@@ -1,5 +1,5 @@
 -- `step` meets its contract: a quotient of a quotient is one quotient. Assumes nothing.
-use Rattle.std.proofs.Common.{ℕ, ◌-◌, ap, arith, rules}
+use Rattle.std.proofs.Common.{ℕ, ◌-◌, ap, arith}
 use Rattle.cosine.specs.Cos.{one}
 use Rattle.cosine.proofs.Products.{step_is}
 use Rattle.cosine.proofs.sum.step.Goals as goal

@@ -1,5 +1,4 @@
 -- `times`: both factors are small enough to be moved up. Assumes nothing.
-use Rattle.std.proofs.Common.{rules}
 use Rattle.cosine.proofs.Products.{times_is}
 use Rattle.cosine.proofs.sum.times.Goals as goal
 

@@ -30,7 +30,7 @@ pub offset_bounds-window-made : goal.offset_bounds-window-made
 offset_bounds-window-made c = omega (arith, within c, c.well_formed.1.1.1.1.0)
 
 pub slice_bounds-copy-end-2 : goal.slice_bounds-copy-end-2
-slice_bounds-copy-end-2 c = omega (arith, within (goal.at.slice_bounds-copy-end-2 c).After-out-1)
+slice_bounds-copy-end-2 c = omega (arith, within (goal.at.slice_bounds-copy-end-2 c).After-slice_known-6-1)
 
 pub returns : goal.returns
 returns c =

@@ -1,5 +1,5 @@
 -- `multiple` meets its contract. Assumes nothing.
-use Rattle.std.proofs.Common.{refl, rules}
+use Rattle.std.proofs.Common.{refl}
 use Rattle.exponential.specs.Exp.{multiples}
 use Rattle.exponential.proofs.Guess.{multiples_fit}
 use Rattle.exponential.proofs.reduction.multiple.Goals as goal

@@ -1,5 +1,5 @@
 -- `nearest` meets its contract: the guess, or one less. Assumes nothing.
-use Rattle.std.proofs.Common.{ℕ, ◌≤◌, arith, rules}
+use Rattle.std.proofs.Common.{ℕ, ◌≤◌, arith}
 use Rattle.exponential.proofs.Guess.{guess_right, guess_large}
 use Rattle.exponential.proofs.reduction.nearest.Goals as goal
 

@@ -1,5 +1,5 @@
 -- `units` meets its contract, below a unit and from there on. Assumes nothing.
-use Rattle.std.proofs.Common.{arith, rules}
+use Rattle.std.proofs.Common.{arith}
 use Rattle.exponential.proofs.Scaled.{no_unit, shifted}
 use Rattle.exponential.proofs.reduction.units.Goals as goal
 

@@ -1,5 +1,4 @@
 -- `fir` meets its contract: the first two taps of each row, the groups, and the taps one by one. Assumes nothing.
-use borrow.Author.Rules.{rules}
 use mathlib.Core.Path.{◌≡◌, ap, ◌∙◌}
 use Prim.Native.Nat.{ℕ, ◌<◌}
 use native.Mathlib.Omega.{arith}
@@ -17,7 +16,7 @@ grouped_long : (c : After-groups-grouped) → (length c.groups-grouped.new.first
 grouped_long c = (c.groups-grouped.auto.first ∙ c.start_all-begun.auto.first, c.groups-grouped.auto.second ∙ c.start_all-begun.auto.second, c.groups-grouped.auto.last ∙ c.start_all-begun.auto.last)
 
 all_long : (c : After-singles-s) → (length c.singles-s.new.first ≡ length c.args.first.now) × (length c.singles-s.new.second ≡ length c.args.second.now) × (length c.singles-s.new.last ≡ length c.args.last.now)
-all_long c = let g = grouped_long c.After-groups-grouped in (c.singles-s.auto.first ∙ g.0, c.singles-s.auto.second ∙ g.1, c.singles-s.auto.last ∙ g.2)
+all_long c = (c.singles-s.auto.first ∙ c.groups-grouped.auto.first ∙ c.start_all-begun.auto.first, c.singles-s.auto.second ∙ c.groups-grouped.auto.second ∙ c.start_all-begun.auto.second, c.singles-s.auto.last ∙ c.groups-grouped.auto.last ∙ c.start_all-begun.auto.last)
 
 pub overflow_sub-from : goal.overflow_sub-from
 overflow_sub-from c =

@@ -1,11 +1,10 @@
 -- `groups` meets its contract: the groups that are left make of each row here what all of them make of it at the start. Assumes nothing.
-use mathlib.Core.Path.{◌≡◌, refl, sym, ap, ◌∙◌}
-use Prim.Native.Nat.{ℕ, ◌+◌, ◌-◌, ◌/◌, ◌≤◌, ◌<◌}
+use mathlib.Core.Path.{refl, sym, ap, ◌∙◌}
+use Prim.Native.Nat.{◌+◌, ◌-◌, ◌/◌}
 use native.Mathlib.Omega.{arith}
 use lib.ListN.{length}
 use Rattle.fir.specs.Fir.{groups}
 use Rattle.fir.proofs.FirLaws.{group_turn, groups_end}
-use Rattle.lanes.specs.Rows.{taps_at}
 use Rattle.lanes.proofs.five.groups.Goals as goal
 
 pub loop-i-init : goal.loop-i-init

@@ -1,10 +1,8 @@
 -- `singles` meets its contract: the taps that are left make of each row here what all of them make of it at the start. Assumes nothing.
-use mathlib.Core.Path.{◌≡◌, refl, sym, ap, ◌∙◌}
-use Prim.Native.Nat.{ℕ, ◌+◌, ◌-◌, ◌≤◌, ◌<◌}
-use native.Mathlib.Omega.{arith}
+use mathlib.Core.Path.{◌≡◌}
+use Prim.Native.Nat.{ℕ, ◌-◌, ◌≤◌, ◌<◌}
 use lib.ListN.{length}
 use Rattle.fir.specs.Fir.{singles}
-use Rattle.fir.proofs.FirLaws.{tap_turn, singles_end}
 use Rattle.lanes.specs.Rows.{taps_at}
 use Rattle.lanes.proofs.five.singles.Given as goal
 

@@ -1,5 +1,4 @@
 -- `tap_all` meets its contract: both pairs, and the row by itself. Assumes nothing.
-use borrow.Author.Rules.{rules}
 use native.Mathlib.Omega.{arith}
 use Rattle.lanes.proofs.RowLaws.{each_row}
 use Rattle.lanes.proofs.five.tap_all.Goals as goal

@@ -1,11 +1,7 @@
 -- `lane_back` meets its contract: the first i taps are those of the lane, the others as they were. Assumes nothing.
-use borrow.Author.Rules.{rules}
-use mathlib.Core.Path.{◌≡◌, refl}
-use Prim.Native.Nat.{◌-◌, ◌≤◌}
+use mathlib.Core.Path.{refl}
 use native.Mathlib.Omega.{arith}
-use lib.ListN.{length, take, length-set}
-use Rattle.number.specs.Lists.{over}
-use Rattle.lanes.specs.Lane.{lane}
+use lib.ListN.{length, length-set}
 use Rattle.mlsa.proofs.LayoutLaws.{back_turn, back_end}
 use Rattle.mlsa.proofs.layout.lane_back.Goals as goal
 

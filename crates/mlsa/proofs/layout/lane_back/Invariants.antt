@@ -1,12 +1,9 @@
 -- `lane_back` meets its contract: the first i taps are those of the lane, the others as they were. Assumes nothing.
-use borrow.Author.Rules.{rules}
-use mathlib.Core.Path.{◌≡◌, refl}
+use mathlib.Core.Path.{◌≡◌}
 use Prim.Native.Nat.{◌-◌, ◌≤◌}
-use native.Mathlib.Omega.{arith}
-use lib.ListN.{length, take, length-set}
+use lib.ListN.{length, take}
 use Rattle.number.specs.Lists.{over}
 use Rattle.lanes.specs.Lane.{lane}
-use Rattle.mlsa.proofs.LayoutLaws.{back_turn, back_end}
 use Rattle.mlsa.proofs.layout.lane_back.Given as goal
 
 abbrev pub invariant-loop-i : goal.invariant-loop-i

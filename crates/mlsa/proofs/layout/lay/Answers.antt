@@ -1,5 +1,4 @@
 -- `lay` meets its contract: one pair, and then the other. Assumes nothing.
-use borrow.Author.Rules.{rules}
 use Rattle.mlsa.proofs.LayoutLaws.{lay_all}
 use Rattle.mlsa.proofs.layout.lay.Goals as goal
 

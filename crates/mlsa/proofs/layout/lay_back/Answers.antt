@@ -1,5 +1,4 @@
 -- `lay_back` meets its contract: the four rows, one after the other. Assumes nothing.
-use borrow.Author.Rules.{rules}
 use Rattle.mlsa.proofs.LayoutLaws.{back_all}
 use Rattle.mlsa.proofs.layout.lay_back.Goals as goal
 

@@ -1,8 +1,8 @@
 -- `lay_pair` meets its contract: the first i taps of each lane are those of its row. Assumes nothing.
-use mathlib.Core.Path.{◌≡◌, refl}
-use Prim.Native.Nat.{ℕ, ◌+◌, ◌-◌, ◌*◌, ◌≤◌, ◌<◌}
+use mathlib.Core.Path.{refl}
+use Prim.Native.Nat.{◌+◌, ◌*◌, ◌≤◌}
 use native.Mathlib.Omega.{arith}
-use lib.ListN.{length, take, drop}
+use lib.ListN.{length}
 use Rattle.lanes.specs.Lane.{lane}
 use Rattle.lanes.proofs.LaneLaws.{length_lane}
 use Rattle.mlsa.proofs.MlsaLaws.{rows_from}

@@ -1,12 +1,8 @@
 -- `lay_pair` meets its contract: the first i taps of each lane are those of its row. Assumes nothing.
-use mathlib.Core.Path.{◌≡◌, refl}
+use mathlib.Core.Path.{◌≡◌}
 use Prim.Native.Nat.{ℕ, ◌+◌, ◌-◌, ◌*◌, ◌≤◌, ◌<◌}
-use native.Mathlib.Omega.{arith}
 use lib.ListN.{length, take, drop}
 use Rattle.lanes.specs.Lane.{lane}
-use Rattle.lanes.proofs.LaneLaws.{length_lane}
-use Rattle.mlsa.proofs.MlsaLaws.{rows_from}
-use Rattle.mlsa.proofs.LayoutLaws.{lay_turn, lay_end}
 use Rattle.mlsa.proofs.layout.lay_pair.Given as goal
 
 abbrev pub invariant-loop-i : goal.invariant-loop-i

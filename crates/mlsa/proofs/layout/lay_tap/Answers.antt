@@ -1,5 +1,4 @@
 -- `lay_tap` meets its contract: the tap is stored in each lane. Assumes nothing.
-use borrow.Author.Rules.{rules}
 use mathlib.Core.Path.{◌≡◌}
 use Prim.Native.Nat.{◌+◌, ◌*◌}
 use native.Mathlib.Omega.{arith}

@@ -1,5 +1,4 @@
 -- `row_back` meets its contract: the row lies within d21, and the lane is put there. Assumes nothing.
-use borrow.Author.Rules.{rules}
 use mathlib.Core.Path.{refl}
 use native.Mathlib.Omega.{arith}
 use Rattle.mlsa.proofs.MlsaLaws.{row_within}

@@ -20,7 +20,7 @@ not_found_at left next h e = ap (λ (n : ℕ). found_of n next) (omega arith) �
 pub loop-left-preserved : goal.loop-left-preserved
 loop-left-preserved c =
     let no : accepted (try_of c.loop-left.next) ≡ false = ap accepted (sym c.attempt-t.ensures) ∙ sym c.strictly_within.ensures ∙ c.if-strictly_within.false in
-    ap (λ (c.attempt-t : Try). found_of (c.loop-left.left - 1) c.attempt-t.next) c.attempt-t.ensures ∙ sym (not_found_at c.loop-left.left c.loop-left.next (omega (arith, c.if-left-eq0.false)) no) ∙ c.loop-left.invariant
+    ap (λ (t : Try). found_of (c.loop-left.left - 1) t.next) c.attempt-t.ensures ∙ sym (not_found_at c.loop-left.left c.loop-left.next (omega (arith, c.if-left-eq0.false)) no) ∙ c.loop-left.invariant
 
 pub returns-then-left-eq0 : goal.returns-then-left-eq0
 unfolding found_of

@@ -12,6 +12,7 @@ use Rattle.pulse.specs.declared.Pitch.{Pitch}
 use Rattle.pulse.specs.Train.{period_of, voiced, train, start_of}
 use borrow.Author.Rules.{rules}
 use Rattle.pulse.proofs.Pulse.start.Goals as goal
+use Rattle.pulse.proofs.Pulse.start.Goals.{else-self-via-then-self+else-end, else-self-via-else-self}
 
 pub int_to_float-result : goal.int_to_float-result
 int_to_float-result c = small_float c.args.fperiod c.requires
@@ -35,5 +36,5 @@ returns-then-end c =
 pub returns : goal.returns
 returns c =
     let one_is_not : (voiced c.args.self.pitch && voiced (period_of c.args.pitch)) ≡ false =
-    ⊎_elim (λ w. rw (← c.period-end.ensures, w.0.taken) w.1.left) (λ w. rw w.left refl) c.else-self.branch in
+    elim c.else-self.branch [ else-self-via-then-self+else-end w ↦ rw (← c.period-end.ensures, w.if-self.true) w.if-end.false | else-self-via-else-self w ↦ rw w.if-self.false refl ] in
     ap (λ (p : Float). train p p 0f p) c.period-end.ensures ∙ at_once c.args.self c.args.pitch c.args.fperiod one_is_not

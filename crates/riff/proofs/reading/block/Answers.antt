@@ -1,7 +1,6 @@
 -- `block`: by its test. Assumes nothing.
 use mathlib.Core.Path.{refl}
 use Rattle.riff.specs.Reading.{block_of}
-use borrow.Author.Rules.{rules}
 use Rattle.riff.proofs.reading.block.Goals as goal
 
 pub returns-then-pcm-channels : goal.returns-then-pcm-channels

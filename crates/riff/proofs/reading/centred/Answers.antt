@@ -1,6 +1,5 @@
 -- `centred`: the law on the machine. Assumes nothing.
 use Rattle.riff.proofs.ReadingLaws.{centred_is}
-use borrow.Author.Rules.{rules}
 use Rattle.riff.proofs.reading.centred.Goals as goal
 
 pub overflow_sub-result : goal.overflow_sub-result

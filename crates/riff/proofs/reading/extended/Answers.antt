@@ -1,7 +1,6 @@
 -- `extended`: its four tests. Assumes nothing.
 use mathlib.Core.Path.{refl}
 use Rattle.riff.specs.Reading.{extended_of}
-use borrow.Author.Rules.{rules}
 use Rattle.riff.proofs.reading.extended.Goals as goal
 
 pub returns : goal.returns

@@ -3,7 +3,6 @@ use mathlib.Core.Path.{refl}
 use native.Mathlib.Omega.{arith}
 use borrow.Author.Tests.{lt-ltb, le-ltb}
 use Rattle.riff.specs.Reading.{end_of}
-use borrow.Author.Rules.{rules}
 use Rattle.riff.proofs.reading.file_end.Goals as goal
 
 pub returns-then-s-lt12 : goal.returns-then-s-lt12

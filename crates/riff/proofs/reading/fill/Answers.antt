@@ -1,12 +1,9 @@
 -- `fill`: storing the samples from i on gives what storing all of them gives. Assumes nothing.
 use mathlib.Core.Path.{◌≡◌, refl, sym, ◌∙◌}
-use Prim.Native.Nat.{◌+◌, ◌-◌, ◌*◌, ◌≤◌}
-use borrow.Author.Rules.{rules}
+use Prim.Native.Nat.{◌+◌, ◌-◌, ◌≤◌}
 use native.Mathlib.Nat.{mul-le-mul_left}
 use native.Mathlib.Omega.{arith}
 use lib.ListN.{length, length-set}
-use lib.Seq.{sets}
-use Rattle.riff.specs.Reading.{numbers_in}
 use Rattle.riff.proofs.ReadingLaws.{numbers_turn, numbers_end}
 use Rattle.riff.proofs.reading.fill.Goals as goal
 use Rattle.riff.proofs.reading.fill.Goals.{In-loop-i}

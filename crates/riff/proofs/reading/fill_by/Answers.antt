@@ -1,7 +1,6 @@
 -- `fill_by`: `fill` with the number that k is. Assumes nothing.
 use mathlib.Core.Path.{◌≡◌}
 use native.Mathlib.Omega.{arith}
-use borrow.Author.Rules.{rules}
 use Rattle.riff.proofs.reading.fill_by.Goals as goal
 use Rattle.riff.proofs.reading.fill_by.Goals.{Else-k-eq2, Then-k-eq2}
 

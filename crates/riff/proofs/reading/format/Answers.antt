@@ -7,7 +7,6 @@ use native.Mathlib.Omega.{arith}
 use borrow.Author.Tests.{lt-ltb, le-ltb, eq-eqb, ne_eqb}
 use Rattle.riff.specs.Reading.{format_of}
 use Rattle.riff.proofs.ReadingLaws.{format_size}
-use borrow.Author.Rules.{rules}
 use Rattle.riff.proofs.reading.format.Goals as goal
 
 pub returns-then-c-size : goal.returns-then-c-size

@@ -1,9 +1,5 @@
 -- `found`: by its test. Assumes nothing.
-use mathlib.Core.Path.{refl}
-use Prim.Native.Nat.{◌/◌, ◌≤◌}
-use borrow.Author.Rules.{rules}
 use native.Mathlib.Omega.{arith}
-use lib.ListN.{length}
 use Rattle.riff.proofs.ReadingLaws.{whole_samples, hears_count, hears_all}
 use Rattle.riff.proofs.reading.found.Goals as goal
 

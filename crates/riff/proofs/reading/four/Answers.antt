@@ -1,7 +1,6 @@
 -- `four`: its lowest byte and the others. Assumes nothing.
 use native.Mathlib.Omega.{arith}
 use Rattle.riff.proofs.ReadingLaws.{field_more}
-use borrow.Author.Rules.{rules}
 use Rattle.riff.proofs.reading.four.Goals as goal
 
 pub overflow_cast-result : goal.overflow_cast-result

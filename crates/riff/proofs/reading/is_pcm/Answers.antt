@@ -4,7 +4,6 @@ use mathlib.Core.Bool.{false}
 use lib.Dec.{eqb}
 use borrow.Author.Tests.{eq-eqb, ne_eqb}
 use Rattle.riff.specs.Reading.{is_pcm}
-use borrow.Author.Rules.{rules}
 use Rattle.riff.proofs.reading.is_pcm.Goals as goal
 
 pub returns-then-tag-eq1 : goal.returns-then-tag-eq1

@@ -2,7 +2,6 @@
 use mathlib.Core.Path.{refl}
 use borrow.Author.Tests.{lt-ltb, le-ltb, lt-leb, le-leb, eq-eqb, ne_eqb}
 use Rattle.riff.specs.Reading.{step_of, skipped_of}
-use borrow.Author.Rules.{rules}
 use Rattle.riff.proofs.reading.next.Goals as goal
 
 pub returns-then-end-at : goal.returns-then-end-at

@@ -6,7 +6,6 @@ use lib.Dec.{lit≤}
 use lib.ListN.{length, get_or}
 use Rattle.riff.specs.Reading.{field}
 use Rattle.riff.proofs.ReadingLaws.{number_is, field_three}
-use borrow.Author.Rules.{rules}
 use Rattle.riff.proofs.reading.number_at.Goals as goal
 use Rattle.riff.proofs.reading.number_at.Goals.{After-shared_slice_known-2-1}
 

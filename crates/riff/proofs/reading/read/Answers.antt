@@ -1,11 +1,10 @@
 -- `read`: by what the chunks say. Assumes nothing.
-use mathlib.Core.Path.{refl, sym, ◌∙◌}
-use borrow.Author.Rules.{rules}
+use mathlib.Core.Path.{sym, ◌∙◌}
 use Rattle.riff.proofs.ReadingLaws.{hears_nothing}
 use Rattle.riff.proofs.reading.read.Goals as goal
 
 pub found-requires : goal.found-requires
-found-requires c = rw c.in-Found.is (goal.at.found-requires c).In-Found-2 c.chunks-answer.ensures.1
+found-requires c = rw c.in-Found.is at c.chunks-answer.ensures.1
 
 pub returns-in-Refused : goal.returns-in-Refused
 returns-in-Refused c =

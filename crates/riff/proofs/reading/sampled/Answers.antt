@@ -2,7 +2,6 @@
 use mathlib.Core.Path.{refl}
 use borrow.Author.Tests.{lt-ltb, le-ltb, eq-eqb, ne_eqb}
 use Rattle.riff.specs.Reading.{sampled_of}
-use borrow.Author.Rules.{rules}
 use Rattle.riff.proofs.reading.sampled.Goals as goal
 
 pub returns-then-k-eq0 : goal.returns-then-k-eq0

@@ -2,7 +2,6 @@
 use Prim.Native.Nat.{◌+◌}
 use native.Mathlib.Omega.{arith}
 use Rattle.riff.proofs.ReadingLaws.{field_two}
-use borrow.Author.Rules.{rules}
 use Rattle.riff.proofs.reading.two.Goals as goal
 
 pub overflow_cast-result : goal.overflow_cast-result

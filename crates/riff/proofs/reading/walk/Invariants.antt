@@ -1,10 +1,7 @@
 -- `walk`: the walk from here on is the walk from the first chunk on. Assumes nothing.
-use mathlib.Core.Path.{◌≡◌, refl, ◌∙◌}
-use borrow.Author.Rules.{rules}
-use native.Mathlib.Omega.{arith}
+use mathlib.Core.Path.{◌≡◌}
 use lib.ListN.{length}
 use Rattle.riff.specs.Reading.{first, walk_of}
-use Rattle.riff.proofs.ReadingLaws.{walk_turn, walk_out}
 use Rattle.riff.proofs.reading.walk.Given as goal
 
 abbrev pub invariant-loop-left : goal.invariant-loop-left

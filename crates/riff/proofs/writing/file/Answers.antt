@@ -3,9 +3,8 @@ use mathlib.Core.Path.{◌≡◌, refl, ◌∙◌}
 use Prim.Native.Nat.{◌+◌, ◌*◌, ◌^◌, ◌≤◌, ◌<◌}
 use native.Mathlib.Omega.{arith}
 use lib.ListN.{length}
-use Rattle.riff.specs.Writing.{bytes_in, padded, refusal_of}
+use Rattle.riff.specs.Writing.{padded, refusal_of}
 use Rattle.riff.proofs.WritingLaws.{size_says, product_fits, by_number, short, enough, writes_nothing, writes_all, length_file, file_of_lem}
-use borrow.Author.Rules.{rules}
 use Rattle.riff.proofs.writing.file.Goals as goal
 use Rattle.riff.proofs.writing.file.Goals.{After-bytes_in, Else-number-ne0}
 
@@ -14,7 +13,9 @@ fits c = let zero : 0 ≡ c.refusal-number.result = omega arith in zero ∙ c.re
 
 -- the bytes of the samples, as the code has them
 small : (c : After-bytes_in) → 36 + padded (c.bytes_in.result * length c.args.samples.now) < 2 ^ 32
-small c = rw c.bytes_in.ensures.0 (size_says c.args.width c.args.rate (length c.args.samples.now) (fits c.Else-number-ne0)).0
+small c =
+    let zero : 0 ≡ c.refusal-number.result = omega arith in
+    rw c.bytes_in.ensures.0 (size_says c.args.width c.args.rate (length c.args.samples.now) (zero ∙ c.refusal-number.ensures)).0
 
 pub returns-then-number-ne0 : goal.returns-then-number-ne0
 returns-then-number-ne0 c =

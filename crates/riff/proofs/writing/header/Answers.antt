@@ -4,7 +4,6 @@ use native.Mathlib.Omega.{arith}
 use lib.ListN.{length}
 use Rattle.riff.specs.Writing.{refusal_of}
 use Rattle.riff.proofs.WritingLaws.{size_says, product_fits, by_number, short, enough, writes_nothing, writes_all, length_header}
-use borrow.Author.Rules.{rules}
 use Rattle.riff.proofs.writing.header.Goals as goal
 use Rattle.riff.proofs.writing.header.Goals.{Else-number-ne0}
 

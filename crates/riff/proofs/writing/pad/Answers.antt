@@ -4,7 +4,6 @@ use Prim.Native.Nat.{◌*◌, ◌%◌, ◌≤◌}
 use native.Mathlib.Omega.{arith}
 use lib.ListN.{length}
 use Rattle.riff.proofs.WritingLaws.{small_product, parity, short, enough, writes_nothing, writes_all, length_zeros, pad_stored}
-use borrow.Author.Rules.{rules}
 use Rattle.riff.proofs.writing.pad.Goals as goal
 
 pub overflow_mul-sound : goal.overflow_mul-sound

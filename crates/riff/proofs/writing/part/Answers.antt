@@ -6,7 +6,6 @@ use native.Mathlib.Omega.{arith}
 use lib.ListN.{length}
 use Rattle.pcm.proofs.SamplesLaws.{length_bytes_of}
 use Rattle.riff.proofs.WritingLaws.{short, enough, writes_nothing, writes_all}
-use borrow.Author.Rules.{rules}
 use Rattle.riff.proofs.writing.part.Goals as goal
 
 pub overflow_mul-bytes : goal.overflow_mul-bytes

@@ -1,7 +1,6 @@
 -- `put_header`: its words are the header's bytes. Assumes nothing.
 use native.Mathlib.Omega.{arith}
 use Rattle.riff.proofs.WritingLaws.{header_stored, small_product}
-use borrow.Author.Rules.{rules}
 use Rattle.riff.proofs.writing.put_header.Goals as goal
 
 pub overflow_mul-second : goal.overflow_mul-second

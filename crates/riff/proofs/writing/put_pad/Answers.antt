@@ -3,7 +3,6 @@ use mathlib.Core.Path.{◌≡◌, refl}
 use Prim.Native.Nat.{◌%◌}
 use native.Mathlib.Omega.{arith}
 use Rattle.riff.specs.Writing.{zeros}
-use borrow.Author.Rules.{rules}
 use Rattle.riff.proofs.writing.put_pad.Goals as goal
 
 pub returns-then-sound-eq1 : goal.returns-then-sound-eq1

@@ -29,14 +29,14 @@ slice_bounds-put_24-end c = let r = room_24 c in search rules
 
 pub returns-in-Sixteen : goal.returns-in-Sixteen
 returns-in-Sixteen c =
-    rw (is_16 (goal.at.returns-in-Sixteen c).In-Sixteen) (
-      c.put_16.ensures.held,
-      sound_stored c.args.out.now c.args.at 2 (word_of 16) c.args.samples.now c.put_16.new.out c.put_16.ensures.bytes (room_16 (goal.at.returns-in-Sixteen c).In-Sixteen),
-    )
+    rw (is_16 (goal.at.returns-in-Sixteen c).In-Sixteen) (record {
+      held = c.put_16.ensures.held;
+      bytes = sound_stored c.args.out.now c.args.at 2 (word_of 16) c.args.samples.now c.put_16.new.out c.put_16.ensures.bytes (room_16 (goal.at.returns-in-Sixteen c).In-Sixteen);
+    })
 
 pub returns-in-TwentyFour : goal.returns-in-TwentyFour
 returns-in-TwentyFour c =
-    rw (is_24 (goal.at.returns-in-TwentyFour c).In-TwentyFour) (
-      c.put_24.ensures.held,
-      sound_stored c.args.out.now c.args.at 3 (word_of 24) c.args.samples.now c.put_24.new.out c.put_24.ensures.bytes (room_24 (goal.at.returns-in-TwentyFour c).In-TwentyFour),
-    )
+    rw (is_24 (goal.at.returns-in-TwentyFour c).In-TwentyFour) (record {
+      held = c.put_24.ensures.held;
+      bytes = sound_stored c.args.out.now c.args.at 3 (word_of 24) c.args.samples.now c.put_24.new.out c.put_24.ensures.bytes (room_24 (goal.at.returns-in-TwentyFour c).In-TwentyFour);
+    })

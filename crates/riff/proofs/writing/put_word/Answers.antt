@@ -5,7 +5,6 @@ use native.Mathlib.Numerals.{add-one}
 use native.Mathlib.Omega.{arith}
 use lib.ListN.{length-set}
 use Rattle.number.specs.Bytes.{bytes_of}
-use borrow.Author.Rules.{rules}
 use Rattle.riff.proofs.writing.put_word.Goals as goal
 
 pub bounds-out-at-2 : goal.bounds-out-at-2

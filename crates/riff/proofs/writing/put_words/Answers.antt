@@ -1,11 +1,7 @@
 -- `put_words`: storing the words from i on gives what storing all of them gives. Assumes nothing.
-use mathlib.Core.Path.{◌≡◌, refl, ◌∙◌, sym}
-use Prim.Native.Nat.{◌-◌, ◌*◌, ◌≤◌}
-use borrow.Author.Rules.{rules}
+use mathlib.Core.Path.{refl, ◌∙◌, sym}
 use native.Mathlib.Omega.{arith}
-use lib.ListN.{length, drop}
-use lib.Seq.{sets, length-sets}
-use Rattle.riff.specs.Writing.{bytes_of_words}
+use lib.Seq.{length-sets}
 use Rattle.riff.proofs.WritingLaws.{words_turn, words_end}
 use Rattle.riff.proofs.writing.put_words.Goals as goal
 

@@ -1,12 +1,9 @@
 -- `put_words`: storing the words from i on gives what storing all of them gives. Assumes nothing.
-use mathlib.Core.Path.{◌≡◌, refl, ◌∙◌, sym}
+use mathlib.Core.Path.{◌≡◌}
 use Prim.Native.Nat.{◌-◌, ◌*◌, ◌≤◌}
-use borrow.Author.Rules.{rules}
-use native.Mathlib.Omega.{arith}
 use lib.ListN.{length, drop}
-use lib.Seq.{sets, length-sets}
+use lib.Seq.{sets}
 use Rattle.riff.specs.Writing.{bytes_of_words}
-use Rattle.riff.proofs.WritingLaws.{words_turn, words_end}
 use Rattle.riff.proofs.writing.put_words.Given as goal
 
 abbrev pub invariant-loop-i : goal.invariant-loop-i

@@ -1,7 +1,6 @@
 -- `refusal`: by its tests. Assumes nothing.
 use native.Mathlib.Omega.{arith}
 use Rattle.riff.proofs.WritingLaws.{rate_refused, too_long, all_fits, small_product, large_product}
-use borrow.Author.Rules.{rules}
 use Rattle.riff.proofs.writing.refusal.Goals as goal
 
 pub returns-then-rate : goal.returns-then-rate
