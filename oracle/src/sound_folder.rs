@@ -9,9 +9,16 @@ const MOST_BYTES: usize = 2_000;
 /// A file by its name.
 pub type Named = (String, Vec<u8>);
 
-/// The files of the folder ORACLE_SOUNDS whose names end in .wav, in the order of their names.
+/// The files of the folder ORACLE_SOUNDS whose names end in .wav, in the order of their names; none where there is no such folder.
 pub fn files() -> Result<Vec<Named>, String> {
     let folder = std::env::var_os("ORACLE_SOUNDS").ok_or("ORACLE_SOUNDS names no folder")?;
+    if !Path::new(&folder).is_dir() {
+        println!(
+            "the sound files of other programs are left out: there is no folder {}",
+            folder.display()
+        );
+        return Ok(Vec::new());
+    }
     let mut paths = paths(Path::new(&folder))?;
     paths.retain(|path| path.extension().is_some_and(|end| end == "wav"));
     paths.sort();
