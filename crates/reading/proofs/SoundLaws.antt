@@ -55,7 +55,7 @@ pub record Room (k : Configuration) (n : ℕ) : Type 0 where
   pub room : filter_at k.nmcp k.nlpf + filter_count k ≡ n
 
 pub room_with : (k : Configuration) (n : ℕ) → limits_kept k ≡ true → count_of k ≡ n → Room k n
-room_with k n kept count = record { limits = kept; nmcp = (sizes k kept).nmcp-most; nlpf = (sizes k kept).nlpf-most; room = sym (count_parts k) ∙ count }
+room_with k n kept count = record { limits = kept; nmcp = (sizes k kept).nmcp_most; nlpf = (sizes k kept).nlpf_most; room = sym (count_parts k) ∙ count }
 
 pub room_of : (ws : List ℕ) (k : Configuration) → sound ws ≡ true → k ≡ configuration_in ws → Room k (length ws)
 room_of ws k e same =

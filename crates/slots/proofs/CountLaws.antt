@@ -45,17 +45,17 @@ module _ (c : Configuration) where
   module _ (kept : limits_kept c ≡ true) where
     -- at most 8 rows of 64
     pub rows_most : c.stage * c.nmcp ≤ 512
-    rows_most = mul-le-mul (sizes c kept).stage-most (sizes c kept).nmcp-most
+    rows_most = mul-le-mul (sizes c kept).stage_most (sizes c kept).nmcp_most
 
     filter_most : filter_count c ≤ 512
     filter_most = by_stage (eqb c.stage 0)
       where
         by_stage : (b : Bool) → cond b (18 + 6 * c.nmcp) (c.stage * c.nmcp) ≤ 512
-        by_stage true = omega (arith, (sizes c kept).nmcp-most)
+        by_stage true = omega (arith, (sizes c kept).nmcp_most)
         by_stage false = rows_most
 
     pub count_most : count_of c ≤ 917
-    count_most = omega (arith, count_parts, filter_most, (sizes c kept).nmcp-most, (sizes c kept).nlpf-most)
+    count_most = omega (arith, count_parts, filter_most, (sizes c kept).nmcp_most, (sizes c kept).nlpf_most)
 
     pub count_least : 85 ≤ count_of c
     count_least = omega (arith, count_parts)
@@ -107,10 +107,10 @@ module _ (v : Voice) (long : Long v) (kept : limits_kept v.configuration ≡ tru
 
   -- in use are no more than there are
   taps : c.nlpf ≤ 64
-  taps = (sizes c kept).nlpf-most
+  taps = (sizes c kept).nlpf_most
 
   entries : c.nmcp ≤ 64
-  entries = (sizes c kept).nmcp-most
+  entries = (sizes c kept).nmcp_most
 
   pub line_count : length (bits (take c.nlpf v.line)) ≡ c.nlpf
   line_count = front_count c.nlpf v.line (omega (arith, long.line, taps))

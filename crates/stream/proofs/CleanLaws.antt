@@ -72,7 +72,7 @@ module _ (c : Configuration) (f g : MelLogSpectrumApproximation) (d e : List Flo
       go true t =
           let rows : f.d21 ≡ zeros_from (6 * c.nmcp) 384 f.d21 = ap (λ (m : MelLogSpectrumApproximation). m.d21) (rw t at clean) in
           rw t (ap (λ (l : List Float). filter g.d11 g.d12 l g.d22) (zeros_still (6 * c.nmcp) 384 f.d21 g.d21 same.zero.d21 h rows))
-      go false t = rw t (same.other-zero t ∙ (rw t at clean))
+      go false t = rw t (same.other_zero t ∙ (rw t at clean))
 
   abbrev rows_of : List Float → MelGeneralizedLogSpectrumApproximation
   rows_of l = record { d = l }
@@ -82,7 +82,7 @@ module _ (c : Configuration) (f g : MelLogSpectrumApproximation) (d e : List Flo
   nonzero_still h clean = go (eqb c.stage 0) refl
     where
       go : (b : Bool) → eqb c.stage 0 ≡ b → rows_of e ≡ clean_nonzero c (rows_of e)
-      go true t = rw t (ap rows_of (same.other-nonzero t) ∙ (rw t at clean))
+      go true t = rw t (ap rows_of (same.other_nonzero t) ∙ (rw t at clean))
       go false t =
           let rows : d ≡ zeros_from (c.stage * c.nmcp) 512 d = ap (λ (m : MelGeneralizedLogSpectrumApproximation). m.d) (rw t at clean) in
           rw t (ap rows_of (zeros_still (c.stage * c.nmcp) 512 d e same.nonzero h rows))
@@ -91,10 +91,10 @@ module _ (c : Configuration) (f g : MelLogSpectrumApproximation) (d e : List Flo
 
 module _ (v t : Voice) (k : Kept v t) (long : Long v) (kept : limits_kept v.configuration ≡ true) (clean : Clean v) where
   taps : v.configuration.nlpf ≤ 64
-  taps = (sizes v.configuration kept).nlpf-most
+  taps = (sizes v.configuration kept).nlpf_most
 
   entries : v.configuration.nmcp ≤ 64
-  entries = (sizes v.configuration kept).nmcp-most
+  entries = (sizes v.configuration kept).nmcp_most
 
   clean_still : Clean t
   clean_still =

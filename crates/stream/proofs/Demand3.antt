@@ -48,7 +48,7 @@ gives : (f : Frame) (v : Voice) → Good v → HeldFrame f → refusal f v ≡ 0
 gives f v g k e =
     let kept = given_kept f v e in
     let good = given_good f v k g e in
-    let least = (sizes v.configuration (limits v g)).fperiod-least in
+    let least = (sizes v.configuration (limits v g)).fperiod_least in
     let some : 0 < (given f v).left = omega (arith, kept.1, least) in
     (kept.0, good, good.usable, kept.1 ∙ ap (λ (c : Configuration). c.fperiod) (sym kept.3), some, kept.2)
 

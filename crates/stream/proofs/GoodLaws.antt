@@ -141,7 +141,7 @@ module _ (ws : List ℕ) where
 pub restored_good : (bytes : List ℕ) → Bytes bytes → accepted bytes ≡ true → Good (voice_in (slots_in bytes))
 unfolding random_in voice_with
 restored_good bytes are e =
-    let good = (accepts_of bytes e).sound-slots in
+    let good = (accepts_of bytes e).sound_slots in
     record {
       usable = usable_in (slots_in bytes) good;
       long = long_in (slots_in bytes) good;

@@ -56,11 +56,11 @@ module _ (f : Frame) (v : Voice) (long : Long v) (fits : Fits f v) where
       record {
         configuration = refl;
         line = past_same c.nlpf v.line;
-        lpf = past_front c.nlpf v.lpf f.lpf fits.taps (omega (arith, few.nlpf-most, long.lpf));
+        lpf = past_front c.nlpf v.lpf f.lpf fits.taps (omega (arith, few.nlpf_most, long.lpf));
         queue = refl;
-        coefficients = past_front c.nmcp v.coefficients p.start n.start (omega (arith, few.nmcp-most, long.coefficients));
-        increments = past_front c.nmcp v.increments increments m (omega (arith, few.nmcp-most, long.increments));
-        targets = past_front c.nmcp v.targets p.targets n.targets (omega (arith, few.nmcp-most, long.targets));
+        coefficients = past_front c.nmcp v.coefficients p.start n.start (omega (arith, few.nmcp_most, long.coefficients));
+        increments = past_front c.nmcp v.increments increments m (omega (arith, few.nmcp_most, long.increments));
+        targets = past_front c.nmcp v.targets p.targets n.targets (omega (arith, few.nmcp_most, long.targets));
         filters = same_rows c v.zero v.nonzero.d;
       }
 
@@ -73,9 +73,9 @@ module _ (f : Frame) (v : Voice) (long : Long v) (fits : Fits f v) where
   entries_prepared =
       let c = v.configuration in
       let few = sizes_of f v fits in
-      let now : length (take c.nmcp v.coefficients) ≡ c.nmcp = length-take-le c.nmcp v.coefficients (omega (arith, few.nmcp-most, long.coefficients)) in
+      let now : length (take c.nmcp v.coefficients) ≡ c.nmcp = length-take-le c.nmcp v.coefficients (omega (arith, few.nmcp_most, long.coefficients)) in
       subst (λ (n : ℕ). Inside (Both (Has n)) (prepared f v)) fits.entries
-      (prepared_of c v.first (take c.nmcp v.coefficients) f.spectrum (omega (arith, few.nmcp-least, fits.entries)) (now ∙ sym fits.entries))
+      (prepared_of c v.first (take c.nmcp v.coefficients) f.spectrum (omega (arith, few.nmcp_least, fits.entries)) (now ∙ sym fits.entries))
 
 pub given_keeps : (f : Frame) (v : Voice) → Long v → earlier f v ≡ 0 → Kept v (given f v)
 unfolding given

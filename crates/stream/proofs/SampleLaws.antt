@@ -31,10 +31,10 @@ sized_after n (one x e) h k = record { taps = h; queue = k }
 
 module _ (v : Voice) (long : Long v) (kept : limits_kept v.configuration ≡ true) where
   taps_few : v.configuration.nlpf ≤ length v.line
-  taps_few = omega (arith, (sizes v.configuration kept).nlpf-most, long.line)
+  taps_few = omega (arith, (sizes v.configuration kept).nlpf_most, long.line)
 
   entries_few : v.configuration.nmcp ≤ length v.coefficients
-  entries_few = omega (arith, (sizes v.configuration kept).nmcp-most, long.coefficients)
+  entries_few = omega (arith, (sizes v.configuration kept).nmcp_most, long.coefficients)
 
   entries_now : length (take v.configuration.nmcp v.coefficients) ≡ v.configuration.nmcp
   entries_now = length-take-le v.configuration.nmcp v.coefficients entries_few
@@ -51,7 +51,7 @@ module _ (v : Voice) (long : Long v) (kept : limits_kept v.configuration ≡ tru
         coefficients = past_front c.nmcp v.coefficients t.c (entries_kept c (increments_of v) (filters_of v) x ∙ entries_now) entries_few;
         increments = past_same c.nmcp v.increments;
         targets = past_same c.nmcp v.targets;
-        filters = turn_same c (increments_of v) (filters_of v) x entries_now (omega (arith, long.d11)) (omega (arith, long.d21, (sizes c kept).nmcp-most)) (omega (arith, long.d, rows_most c kept));
+        filters = turn_same c (increments_of v) (filters_of v) x entries_now (omega (arith, long.d11)) (omega (arith, long.d21, (sizes c kept).nmcp_most)) (omega (arith, long.d, rows_most c kept));
       }
 
   -- at the frame's end the coefficients are changed once more
@@ -59,7 +59,7 @@ module _ (v : Voice) (long : Long v) (kept : limits_kept v.configuration ≡ tru
   closed_kept t k =
       let n = v.configuration.nmcp in
       let targets : length (take t.configuration.nmcp t.targets) ≡ n =
-      rw k.configuration (length-take-le n t.targets (omega (arith, k.targets.size, long.targets, (sizes v.configuration kept).nmcp-most))) in
+      rw k.configuration (length-take-le n t.targets (omega (arith, k.targets.size, long.targets, (sizes v.configuration kept).nmcp_most))) in
       let again = past_front n t.coefficients (take t.configuration.nmcp t.targets) targets (omega (arith, k.coefficients.size, entries_few)) in
       record {
         configuration = k.configuration;

@@ -84,5 +84,5 @@ pub save_restored : (bytes : List ℕ) → Bytes bytes → accepted bytes ≡ tr
 unfolding records_of
 save_restored bytes are e =
     let a = accepts_of bytes e in
-    ap (λ (vs : List ℕ). encoded (numbered 0 vs)) (values_again (slots_in bytes) (values_below (record_count bytes) bytes are) a.sound-slots)
+    ap (λ (vs : List ℕ). encoded (numbered 0 vs)) (values_again (slots_in bytes) (values_below (record_count bytes) bytes are) a.sound_slots)
     ∙ encoded_values (record_count bytes) 0 bytes are a.whole a.order

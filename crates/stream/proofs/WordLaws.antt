@@ -108,15 +108,15 @@ module _ (v : Voice) (h : Held v) (e : acceptable v.configuration v.meter v.left
       let meter_below : Below v.meter = omega (arith, total) in
       let left_below : Below v.left = omega (arith, total) in
       each_word (head_values v) (
-        small_below c.nmcp 64 size.nmcp-most (lit< tt),
+        small_below c.nmcp 64 size.nmcp_most (lit< tt),
         (
-          small_below c.nlpf 64 size.nlpf-most (lit< tt),
+          small_below c.nlpf 64 size.nlpf_most (lit< tt),
           (
-            small_below c.stage 8 size.stage-most (lit< tt),
+            small_below c.stage 8 size.stage_most (lit< tt),
             (
               flag_below c.log,
               (
-                small_below c.rate 192000 size.rate-most (lit< tt),
+                small_below c.rate 192000 size.rate_most (lit< tt),
                 (
                   bits_below c.alpha h.configuration.alpha,
                   (
@@ -124,7 +124,7 @@ module _ (v : Voice) (h : Held v) (e : acceptable v.configuration v.meter v.left
                     (
                       bits_below c.volume h.configuration.volume,
                       (
-                        small_below c.fperiod 4800 size.fperiod-most (lit< tt),
+                        small_below c.fperiod 4800 size.fperiod_most (lit< tt),
                         (
                           bits_below c.nodata h.configuration.nodata,
                           (

@@ -110,7 +110,7 @@ pub item_9_one : (c : Configuration) (r : Answered) → c.nmcp ≡ 1 → Opens c
 item_9_one = calls.item-9-one
 
 pub item_9_two : (r : Answered) → Opens (sized 2 0) r → r.number ≡ 0
-item_9_two = calls.item-9-two
+item_9_two = calls.item_9_two
 
 -- 10: "spectrum of 24 or 26 at nmcp 25: 4"
 pub item_10 : (lf0 : Float) (spectrum lpf : List Float) (r : Answered) → (length spectrum ≡ 24) ⊎ (length spectrum ≡ 26)

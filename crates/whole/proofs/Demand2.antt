@@ -80,7 +80,7 @@ unfolding whole gave drew idle
 rendered_is f v out start e room =
     let fit = fits_of f v (earlier_none f v e) in
     let left = left_after f v (prepared f v) refl e in
-    let some = (sizes_of f v fit).fperiod-least in
+    let some = (sizes_of f v fit).fperiod_least in
     rw (
       fit.usable,
       le-ltb (room_from start out) v.configuration.fperiod room,

@@ -4,7 +4,6 @@ use mathlib.Core.Path.{ap, ◌∙◌}
 use lib.Ieee.{Float}
 use Rattle.vectors.specs.Vectors.{energy_of}
 use Rattle.cepstrum.specs.Cepstrum.{c2ir_of, energy_on, b2en_of}
-use borrow.Author.Rules.{rules}
 use Rattle.energies.proofs.b2en_both.Goals as goal
 
 pub returns : goal.returns

@@ -1,13 +1,11 @@
 -- `interleaved` meets its contract: the first i entries of both are in their places. Assumes nothing.
-use mathlib.Core.Path.{◌≡◌, refl, ◌∙◌}
-use Prim.Native.Nat.{◌+◌, ◌-◌, ◌*◌, ◌≤◌}
+use mathlib.Core.Path.{refl, ◌∙◌}
+use Prim.Native.Nat.{◌+◌, ◌*◌}
 use native.Mathlib.Omega.{arith}
 use lib.Ieee.{nan}
-use lib.ListN.{length, take, set, replicate, length-set}
+use lib.ListN.{set, replicate, length-set}
 use Rattle.number.specs.F64.{0f}
-use Rattle.number.specs.Lists.{over}
-use Rattle.energies.proofs.PairLaws.{Paired, paired_zeros, paired_more, all_taken}
-use borrow.Author.Rules.{rules}
+use Rattle.energies.proofs.PairLaws.{paired_zeros, paired_more, all_taken}
 use Rattle.energies.proofs.interleaved.Goals as goal
 
 pub loop-i-init : goal.loop-i-init

@@ -1,13 +1,10 @@
 -- `interleaved` meets its contract: the first i entries of both are in their places. Assumes nothing.
-use mathlib.Core.Path.{◌≡◌, refl, ◌∙◌}
-use Prim.Native.Nat.{◌+◌, ◌-◌, ◌*◌, ◌≤◌}
-use native.Mathlib.Omega.{arith}
-use lib.Ieee.{nan}
-use lib.ListN.{length, take, set, replicate, length-set}
+use mathlib.Core.Path.{◌≡◌}
+use Prim.Native.Nat.{◌-◌, ◌≤◌}
+use lib.ListN.{length, take, replicate}
 use Rattle.number.specs.F64.{0f}
 use Rattle.number.specs.Lists.{over}
-use Rattle.energies.proofs.PairLaws.{Paired, paired_zeros, paired_more, all_taken}
-use borrow.Author.Rules.{rules}
+use Rattle.energies.proofs.PairLaws.{Paired}
 use Rattle.energies.proofs.interleaved.Given as goal
 
 abbrev pub invariant-loop-i : goal.invariant-loop-i

@@ -1,7 +1,7 @@
 -- `responses` meets its contract: of both responses the first n entries are made, and r is the two, none later than `high`. Assumes nothing.
 use mathlib.Core.Path.{◌≡◌, refl, ap, ◌∙◌}
 use mathlib.Core.List.{List}
-use Prim.Native.Nat.{◌+◌, ◌-◌, ◌*◌, ◌≤◌, ◌<◌}
+use Prim.Native.Nat.{◌+◌, ◌*◌, ◌<◌}
 use native.Mathlib.Omega.{arith}
 use lib.Ieee.{Float}
 use lib.ListN.{length, set, replicate, length-set}
@@ -9,10 +9,9 @@ use Rattle.number.specs.F64.{0f}
 use Rattle.number.proofs.Floats.{small_float}
 use Rattle.vectors.specs.Vectors.{sum_from, grown, energy_of}
 use Rattle.cepstrum.specs.Weights.{weighed_term}
-use Rattle.cepstrum.proofs.CepstrumLaws.{Made, made_more, made_all}
+use Rattle.cepstrum.proofs.CepstrumLaws.{made_more, made_all}
 use Rattle.energies.specs.Pairs.{evens, odds}
-use Rattle.energies.specs.Sizes.{Highest}
-use Rattle.energies.proofs.PairLaws.{Paired, paired_set, paired_zeros}
+use Rattle.energies.proofs.PairLaws.{paired_set, paired_zeros}
 use Rattle.energies.proofs.TopLaws.{highest_more}
 use borrow.Author.Rules.{rules}
 use Rattle.energies.proofs.responses.Goals as goal

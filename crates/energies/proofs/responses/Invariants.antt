@@ -1,20 +1,10 @@
 -- `responses` meets its contract: of both responses the first n entries are made, and r is the two, none later than `high`. Assumes nothing.
-use mathlib.Core.Path.{◌≡◌, refl, ap, ◌∙◌}
-use mathlib.Core.List.{List}
-use Prim.Native.Nat.{◌+◌, ◌-◌, ◌*◌, ◌≤◌, ◌<◌}
-use native.Mathlib.Omega.{arith}
-use lib.Ieee.{Float}
-use lib.ListN.{length, set, replicate, length-set}
-use Rattle.number.specs.F64.{0f}
-use Rattle.number.proofs.Floats.{small_float}
-use Rattle.vectors.specs.Vectors.{sum_from, grown, energy_of}
-use Rattle.cepstrum.specs.Weights.{weighed_term}
-use Rattle.cepstrum.proofs.CepstrumLaws.{Made, made_more, made_all}
-use Rattle.energies.specs.Pairs.{evens, odds}
+use mathlib.Core.Path.{◌≡◌}
+use Prim.Native.Nat.{◌-◌, ◌≤◌}
+use lib.ListN.{length}
+use Rattle.cepstrum.proofs.CepstrumLaws.{Made}
 use Rattle.energies.specs.Sizes.{Highest}
-use Rattle.energies.proofs.PairLaws.{Paired, paired_set, paired_zeros}
-use Rattle.energies.proofs.TopLaws.{highest_more}
-use borrow.Author.Rules.{rules}
+use Rattle.energies.proofs.PairLaws.{Paired}
 use Rattle.energies.proofs.responses.Given as goal
 
 abbrev pub invariant-loop-n : goal.invariant-loop-n

@@ -1,6 +1,6 @@
 -- `sums` meets its contract: of both, the terms that are left give what all of them give; where none can change either sum, both are done. Assumes nothing.
 use mathlib.Core.Path.{◌≡◌, refl, sym, ◌∙◌}
-use Prim.Native.Nat.{ℕ, ◌+◌, ◌-◌, ◌≤◌}
+use Prim.Native.Nat.{ℕ, ◌+◌, ◌-◌}
 use native.Mathlib.Omega.{arith}
 use lib.Ieee.{Float}
 use Rattle.number.specs.F64.{0f}
@@ -8,8 +8,8 @@ use Rattle.vectors.specs.Vectors.{sum_from}
 use Rattle.cepstrum.specs.Weights.{weighed_term}
 use Rattle.energies.specs.Pairs.{evens, odds}
 use Rattle.energies.proofs.PairLaws.{sum_cut, even_stays, odd_stays}
-use borrow.Author.Rules.{rules}
 use Rattle.energies.proofs.sums.Goals as goal
+use Rattle.energies.proofs.sums.Goals.{After-terms-d}
 
 pub loop-k-init : goal.loop-k-init
 loop-k-init c =
@@ -17,41 +17,35 @@ loop-k-init c =
     (omega arith, omega arith, rw all refl, rw all refl)
 
 -- the sums with 32 more terms
-module _ (c : tie.After-terms invariant-loop decreases-loop) where
-  abbrev top : tie.At-loop invariant-loop decreases-loop
-  top = c.before.before
-
-  abbrev given : tie.Start invariant-loop decreases-loop
-  given = top.before.before.before.before
-
+module _ (c : After-terms-d) where
   abbrev even_term : ℕ → Float
-  even_term = weighed_term (evens given.args.w.now) (evens given.args.r.now) given.args.n
+  even_term = weighed_term (evens c.args.w.now) (evens c.args.r.now) c.args.n
 
   abbrev odd_term : ℕ → Float
-  odd_term = weighed_term (odds given.args.w.now) (odds given.args.r.now) given.args.n
+  odd_term = weighed_term (odds c.args.w.now) (odds c.args.r.now) c.args.n
 
-  even_more : sum_from even_term (top.loop.k + 32) (given.args.n + 1 - (top.loop.k + 32)) c.terms.result.first ≡ sum_from even_term 1 given.args.n 0f
-  even_more = sum_cut even_term top.loop.k (top.loop.k + 32) (given.args.n + 1) top.loop.d.first c.terms.result.first (omega arith) (omega arith) c.terms.ensures.0 ∙ top.loop.inv.2
+  even_more : sum_from even_term (c.loop-k.k + 32) (c.args.n + 1 - (c.loop-k.k + 32)) c.terms-d.result.first ≡ sum_from even_term 1 c.args.n 0f
+  even_more = sum_cut even_term c.loop-k.k (c.loop-k.k + 32) (c.args.n + 1) c.loop-k.d.first c.terms-d.result.first (omega arith) (omega arith) c.terms-d.ensures.0 ∙ c.loop-k.invariant.2
 
-  odd_more : sum_from odd_term (top.loop.k + 32) (given.args.n + 1 - (top.loop.k + 32)) c.terms.result.second ≡ sum_from odd_term 1 given.args.n 0f
-  odd_more = sum_cut odd_term top.loop.k (top.loop.k + 32) (given.args.n + 1) top.loop.d.second c.terms.result.second (omega arith) (omega arith) c.terms.ensures.1 ∙ top.loop.inv.3
+  odd_more : sum_from odd_term (c.loop-k.k + 32) (c.args.n + 1 - (c.loop-k.k + 32)) c.terms-d.result.second ≡ sum_from odd_term 1 c.args.n 0f
+  odd_more = sum_cut odd_term c.loop-k.k (c.loop-k.k + 32) (c.args.n + 1) c.loop-k.d.second c.terms-d.result.second (omega arith) (omega arith) c.terms-d.ensures.1 ∙ c.loop-k.invariant.3
 
 pub returns-then-unmoved-2 : goal.returns-then-unmoved-2
 returns-then-unmoved-2 c =
-    let start = given (goal.at.returns-then-unmoved-2 c).After-terms-d in
-    let w = start.args.w.now in
-    let r = start.args.r.now in
-    let n = start.args.n in
-    let k = (top (goal.at.returns-then-unmoved-2 c).After-terms-d).loop.k + 32 in
-    let even = even_stays w r start.args.tops.now start.args.high n k _ c.terms-d.result.first start.pre.1.0 start.pre.1.1 (omega arith) (omega arith) (omega arith) refl (c.unmoved.ensures c.if-unmoved.true) in
-    let odd = odd_stays w r start.args.tops.now start.args.high n k _ c.terms-d.result.second start.pre.1.0 start.pre.1.1 (omega arith) (omega arith) (omega arith) refl (c.unmoved-then-unmoved.ensures c.if-unmoved-2.true) in
-    (sym even ∙ even_more (goal.at.returns-then-unmoved-2 c).After-terms-d, sym odd ∙ odd_more (goal.at.returns-then-unmoved-2 c).After-terms-d)
+    let made = (goal.at.returns-then-unmoved-2 c).After-terms-d in
+    let w = c.args.w.now in
+    let r = c.args.r.now in
+    let n = c.args.n in
+    let k = c.loop-k.k + 32 in
+    let even = even_stays w r c.args.tops.now c.args.high n k _ c.terms-d.result.first c.requires.tops.0 c.requires.tops.1 (omega arith) (omega arith) (omega arith) refl (c.unmoved.ensures c.if-unmoved.true) in
+    let odd = odd_stays w r c.args.tops.now c.args.high n k _ c.terms-d.result.second c.requires.tops.0 c.requires.tops.1 (omega arith) (omega arith) (omega arith) refl (c.unmoved-then-unmoved.ensures c.if-unmoved-2.true) in
+    (sym even ∙ even_more made, sym odd ∙ odd_more made)
 
 pub loop-k-preserved-else-unmoved-2 : goal.loop-k-preserved-else-unmoved-2
-loop-k-preserved-else-unmoved-2 c = (omega arith, omega arith, even_more (goal.at.loop-k-preserved-else-unmoved-2 c).After-terms-d, odd_more (goal.at.loop-k-preserved-else-unmoved-2 c).After-terms-d)
+loop-k-preserved-else-unmoved-2 c = let made = (goal.at.loop-k-preserved-else-unmoved-2 c).After-terms-d in (omega arith, omega arith, even_more made, odd_more made)
 
 pub loop-k-preserved : goal.loop-k-preserved
-loop-k-preserved c = (omega arith, omega arith, even_more (goal.at.loop-k-preserved c).After-terms-d, odd_more (goal.at.loop-k-preserved c).After-terms-d)
+loop-k-preserved c = let made = (goal.at.loop-k-preserved c).After-terms-d in (omega arith, omega arith, even_more made, odd_more made)
 
 pub returns : goal.returns
 returns c =

@@ -1,14 +1,10 @@
 -- `sums` meets its contract: of both, the terms that are left give what all of them give; where none can change either sum, both are done. Assumes nothing.
-use mathlib.Core.Path.{◌≡◌, refl, sym, ◌∙◌}
-use Prim.Native.Nat.{ℕ, ◌+◌, ◌-◌, ◌≤◌}
-use native.Mathlib.Omega.{arith}
-use lib.Ieee.{Float}
+use mathlib.Core.Path.{◌≡◌}
+use Prim.Native.Nat.{◌+◌, ◌-◌, ◌≤◌}
 use Rattle.number.specs.F64.{0f}
 use Rattle.vectors.specs.Vectors.{sum_from}
 use Rattle.cepstrum.specs.Weights.{weighed_term}
 use Rattle.energies.specs.Pairs.{evens, odds}
-use Rattle.energies.proofs.PairLaws.{sum_cut, even_stays, odd_stays}
-use borrow.Author.Rules.{rules}
 use Rattle.energies.proofs.sums.Given as goal
 
 abbrev pub invariant-loop-k : goal.invariant-loop-k

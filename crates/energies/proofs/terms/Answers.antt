@@ -1,13 +1,10 @@
 -- `terms` meets its contract: of both, the terms that are left give what all of them give. Assumes nothing.
-use mathlib.Core.Path.{◌≡◌, refl, sym, ◌∙◌}
-use Prim.Native.Nat.{◌-◌, ◌≤◌}
+use mathlib.Core.Path.{refl, sym, ◌∙◌}
 use native.Mathlib.Omega.{arith}
-use Rattle.vectors.specs.Vectors.{sum_from}
 use Rattle.vectors.proofs.VectorLaws.{sum_done}
 use Rattle.cepstrum.specs.Weights.{weighed_term}
 use Rattle.energies.specs.Pairs.{evens, odds}
 use Rattle.energies.proofs.PairLaws.{even_turn, odd_turn, even_last, odd_last}
-use borrow.Author.Rules.{rules}
 use Rattle.energies.proofs.terms.Goals as goal
 
 pub loop-k-init : goal.loop-k-init

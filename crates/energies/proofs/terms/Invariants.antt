@@ -1,13 +1,9 @@
 -- `terms` meets its contract: of both, the terms that are left give what all of them give. Assumes nothing.
-use mathlib.Core.Path.{◌≡◌, refl, sym, ◌∙◌}
+use mathlib.Core.Path.{◌≡◌}
 use Prim.Native.Nat.{◌-◌, ◌≤◌}
-use native.Mathlib.Omega.{arith}
 use Rattle.vectors.specs.Vectors.{sum_from}
-use Rattle.vectors.proofs.VectorLaws.{sum_done}
 use Rattle.cepstrum.specs.Weights.{weighed_term}
 use Rattle.energies.specs.Pairs.{evens, odds}
-use Rattle.energies.proofs.PairLaws.{even_turn, odd_turn, even_last, odd_last}
-use borrow.Author.Rules.{rules}
 use Rattle.energies.proofs.terms.Given as goal
 
 abbrev pub invariant-loop-k : goal.invariant-loop-k

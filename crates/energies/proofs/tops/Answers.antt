@@ -1,10 +1,9 @@
 -- `tops` meets its contract: from `left` on every place bounds what comes after it. Assumes nothing.
 use mathlib.Core.Path.{◌≡◌, refl}
-use Prim.Native.Nat.{◌+◌, ◌-◌, ◌≤◌}
+use Prim.Native.Nat.{◌+◌, ◌-◌}
 use native.Mathlib.Omega.{arith}
-use lib.ListN.{length, length-set}
+use lib.ListN.{length-set}
 use Rattle.energies.proofs.TopLaws.{TopsFrom, tops_none, tops_all, tops_more}
-use borrow.Author.Rules.{rules}
 use Rattle.energies.proofs.tops.Goals as goal
 
 pub loop-left-init : goal.loop-left-init

@@ -1,10 +1,8 @@
 -- `tops` meets its contract: from `left` on every place bounds what comes after it. Assumes nothing.
-use mathlib.Core.Path.{◌≡◌, refl}
-use Prim.Native.Nat.{◌+◌, ◌-◌, ◌≤◌}
-use native.Mathlib.Omega.{arith}
-use lib.ListN.{length, length-set}
-use Rattle.energies.proofs.TopLaws.{TopsFrom, tops_none, tops_all, tops_more}
-use borrow.Author.Rules.{rules}
+use mathlib.Core.Path.{◌≡◌}
+use Prim.Native.Nat.{◌≤◌}
+use lib.ListN.{length}
+use Rattle.energies.proofs.TopLaws.{TopsFrom}
 use Rattle.energies.proofs.tops.Given as goal
 
 abbrev pub invariant-loop-left : goal.invariant-loop-left

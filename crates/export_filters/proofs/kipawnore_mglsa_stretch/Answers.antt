@@ -9,15 +9,15 @@ use Rattle.export_filters.proofs.kipawnore_mglsa_stretch.Goals as goal
 
 pub returns-then-not-nonzero_fits : goal.returns-then-not-nonzero_fits
 returns-then-not-nonzero_fits c =
-    let e = sym c.nonzero_fits.ensures ∙ not-true _ c.if-not-nonzero_fits.true in
+    let e = sym c.nonzero_fits.ensures ∙ c.if-not-nonzero_fits.true in
     record { value = rw e refl; d_after = refl }
 
 pub stretch_in-requires : goal.stretch_in-requires
 stretch_in-requires c =
-    let fit = nonzero_in (length c.args.c.now) (length c.args.increments.now) c.args.stages (length c.args.d.now) (sym c.nonzero_fits.ensures ∙ not-false _ c.if-not-nonzero_fits.false) in
+    let fit = nonzero_in (length c.args.c.now) (length c.args.increments.now) c.args.stages (length c.args.d.now) (sym c.nonzero_fits.ensures ∙ c.if-not-nonzero_fits.false) in
     (fit.0, fit.1, omega (arith, fit.2))
 
 pub returns : goal.returns
 returns c =
-    let e = sym c.nonzero_fits.ensures ∙ not-false _ c.if-not-nonzero_fits.false in
+    let e = sym c.nonzero_fits.ensures ∙ c.if-not-nonzero_fits.false in
     record { value = rw e refl; d_after = c.stretch_in.ensures }

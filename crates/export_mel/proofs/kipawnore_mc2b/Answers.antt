@@ -6,10 +6,10 @@ use borrow.Author.Rules.{rules}
 use Rattle.export_mel.proofs.kipawnore_mc2b.Goals as goal
 
 pub returns-then-not-entries : goal.returns-then-not-entries
-returns-then-not-entries c = let e = sym c.entries.ensures ∙ not-true _ c.if-not-entries.true in record { value = rw e refl; b_after = rw e refl }
+returns-then-not-entries c = let e = sym c.entries.ensures ∙ c.if-not-entries.true in record { value = rw e refl; b_after = rw e refl }
 
 pub mc2b-requires : goal.mc2b-requires
-mc2b-requires c = let i = entries_in _ _ (sym c.entries.ensures ∙ not-false _ c.if-not-entries.false) in (i.3, i.2)
+mc2b-requires c = let i = entries_in _ _ (sym c.entries.ensures ∙ c.if-not-entries.false) in (i.3, i.2)
 
 pub returns : goal.returns
-returns c = let e = sym c.entries.ensures ∙ not-false _ c.if-not-entries.false in record { value = rw e refl; b_after = rw e c.mc2b.ensures }
+returns c = let e = sym c.entries.ensures ∙ c.if-not-entries.false in record { value = rw e refl; b_after = rw e c.mc2b.ensures }

@@ -6,10 +6,10 @@ use borrow.Author.Rules.{rules}
 use Rattle.export_pairs.proofs.kipawnore_check_lsp_stability.Goals as goal
 
 pub returns-then-not-entries : goal.returns-then-not-entries
-returns-then-not-entries c = let e = sym c.entries.ensures ∙ not-true _ c.if-not-entries.true in record { value = rw e refl; lsp_after = rw e refl }
+returns-then-not-entries c = let e = sym c.entries.ensures ∙ c.if-not-entries.true in record { value = rw e refl; lsp_after = rw e refl }
 
 pub check_lsp_stability-requires : goal.check_lsp_stability-requires
-check_lsp_stability-requires c = let i = entries_in _ _ (sym c.entries.ensures ∙ not-false _ c.if-not-entries.false) in (i.0, i.1)
+check_lsp_stability-requires c = let i = entries_in _ _ (sym c.entries.ensures ∙ c.if-not-entries.false) in (i.0, i.1)
 
 pub returns : goal.returns
-returns c = let e = sym c.entries.ensures ∙ not-false _ c.if-not-entries.false in record { value = rw e refl; lsp_after = rw e c.check_lsp_stability.ensures }
+returns c = let e = sym c.entries.ensures ∙ c.if-not-entries.false in record { value = rw e refl; lsp_after = rw e c.check_lsp_stability.ensures }

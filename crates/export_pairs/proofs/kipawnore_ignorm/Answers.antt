@@ -7,10 +7,10 @@ use borrow.Author.Rules.{rules}
 use Rattle.export_pairs.proofs.kipawnore_ignorm.Goals as goal
 
 pub returns-then-not-general : goal.returns-then-not-general
-returns-then-not-general c = let e = sym c.general.ensures ∙ not-true _ c.if-not-general.true in record { value = rw e refl; c_after = rw e refl }
+returns-then-not-general c = let e = sym c.general.ensures ∙ c.if-not-general.true in record { value = rw e refl; c_after = rw e refl }
 
 pub ignorm-requires : goal.ignorm-requires
-ignorm-requires c = let i = general_in _ _ (sym c.general.ensures ∙ not-false _ c.if-not-general.false) in (i.0, i.2)
+ignorm-requires c = let i = general_in _ _ (sym c.general.ensures ∙ c.if-not-general.false) in (i.0, i.2)
 
 pub returns : goal.returns
-returns c = let e = sym c.general.ensures ∙ not-false _ c.if-not-general.false in record { value = rw e (number_of (ignorm_of c.args.s c.args.c.now) _ _ c.ignorm.ensures.value c.number.ensures); c_after = rw e c.ignorm.ensures.c_after }
+returns c = let e = sym c.general.ensures ∙ c.if-not-general.false in record { value = rw e (number_of (ignorm_of c.args.s c.args.c.now) _ _ c.ignorm.ensures.value c.number.ensures); c_after = rw e c.ignorm.ensures.c_after }

@@ -1,14 +1,10 @@
 -- `gc2gc_entry` meets its contract: the terms that are left give what all of them give, in both sums. Assumes nothing.
-use mathlib.Core.Path.{◌≡◌, refl, sym, ◌∙◌}
-use Prim.Native.Nat.{◌-◌, ◌≤◌}
+use mathlib.Core.Path.{refl, sym, ◌∙◌}
 use native.Mathlib.Omega.{arith}
-use Rattle.number.specs.F64.{0f}
-use Rattle.vectors.specs.Vectors.{sum_from}
 use Rattle.vectors.proofs.VectorLaws.{sum_turn, sum_done}
 use Rattle.generalized.specs.Generalized.{ss1_term, ss2_term}
 use Rattle.generalized.proofs.GeneralizedLaws.{entry_later}
 use Rattle.number.proofs.Floats.{small_float}
-use borrow.Author.Rules.{rules}
 use Rattle.generalized.proofs.gc2gc_entry.Goals as goal
 
 pub loop-k-init : goal.loop-k-init

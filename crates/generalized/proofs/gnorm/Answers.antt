@@ -6,7 +6,6 @@ use lib.Ieee.{Float}
 use lib.ListN.{set}
 use Rattle.number.specs.F64.{◌⊕◌, ◌⊗◌, ◌‼◌, 1f}
 use Rattle.generalized.proofs.GeneralizedLaws.{divided_and_set, gnorm_outside, gnorm_inside}
-use borrow.Author.Rules.{rules}
 use Rattle.generalized.proofs.gnorm.Goals as goal
 
 pub returns-in-Inside : goal.returns-in-Inside

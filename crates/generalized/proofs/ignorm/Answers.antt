@@ -1,7 +1,6 @@
 -- `ignorm` meets its contract: the power's answer decides. Assumes nothing.
 use mathlib.Core.Path.{refl}
 use Rattle.generalized.proofs.GeneralizedLaws.{ignorm_outside, ignorm_inside}
-use borrow.Author.Rules.{rules}
 use Rattle.generalized.proofs.ignorm.Goals as goal
 
 pub returns-in-Inside : goal.returns-in-Inside

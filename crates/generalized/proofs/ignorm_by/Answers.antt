@@ -1,7 +1,6 @@
 -- `ignorm_by` meets its contract. Assumes nothing.
 use native.Mathlib.Omega.{arith}
 use Rattle.generalized.proofs.GeneralizedLaws.{ignorm_made}
-use borrow.Author.Rules.{rules}
 use Rattle.generalized.proofs.ignorm_by.Goals as goal
 
 pub returns : goal.returns

@@ -7,7 +7,6 @@ use Rattle.elementary.proofs.OutcomeLaws.{is_outside, is_inside}
 use Rattle.power.specs.Power.{inverse_root_of}
 use Rattle.generalized.specs.Generalized.{ignormed_by, gnorm_of, gc2gc_of}
 use Rattle.generalized.proofs.GeneralizedLaws.{ignorm_outside, ignorm_inside, mgc_outside, mgc_then, gc2gc_first}
-use borrow.Author.Rules.{rules}
 use Rattle.generalized.proofs.mgc2mgc.Goals as goal
 
 pub returns-in_default : goal.returns-in_default

@@ -16,7 +16,7 @@ use Rattle.refusing.proofs.refusal.Goals.{Else-lpf-configuration, Else-not-usabl
 
 -- what each test that was passed says
 usable_here : (c : Else-not-usable) → acceptable c.args.voice.configuration c.args.voice.meter c.args.voice.left c.args.voice.first c.args.voice.random.used ≡ true
-usable_here c = sym c.usable.ensures ∙ not-false _ c.if-not-usable.false
+usable_here c = sym c.usable.ensures ∙ c.if-not-usable.false
 
 none_left : (c : Else-voice-ne0) → eqb c.args.voice.left 0 ≡ true
 none_left c = let same : c.args.voice.left ≡ 0 = omega (arith, c.if-voice-ne0.false) in eq-eqb _ _ same
@@ -29,7 +29,7 @@ taps c = let same : length c.args.lpf.now ≡ c.args.voice.configuration.nlpf = 
 
 pub returns-then-not-usable : goal.returns-then-not-usable
 unfolding earlier idle
-returns-then-not-usable c = rw (sym c.usable.ensures ∙ not-true _ c.if-not-usable.true) refl
+returns-then-not-usable c = rw (sym c.usable.ensures ∙ c.if-not-usable.true) refl
 
 pub returns-then-voice-ne0 : goal.returns-then-voice-ne0
 unfolding earlier idle
@@ -52,18 +52,18 @@ unfolding earlier idle
 returns-then-configuration-all_within c = rw (usable_here (goal.at.returns-then-configuration-all_within c).Else-not-usable, none_left (goal.at.returns-then-configuration-all_within c).Else-voice-ne0, entries (goal.at.returns-then-configuration-all_within c).Else-spectrum-configuration, taps (goal.at.returns-then-configuration-all_within c).Else-lpf-configuration, ← c.is_finite.ensures, ← c.all_finite.ensures, ← c.all_finite-2.ensures, c.if-not-is_finite-all_finite.false, ← c.all_within.ensures, c.if-configuration-all_within.true) refl
 
 pub overflow_sub-configuration : goal.overflow_sub-configuration
-overflow_sub-configuration c = let f = (sizes c.args.voice.configuration (kept_of _ _ _ _ _ (usable_here (goal.at.overflow_sub-configuration c).Else-not-usable))).fperiod-most in omega (arith, f)
+overflow_sub-configuration c = let f = (sizes c.args.voice.configuration (kept_of _ _ _ _ _ (usable_here (goal.at.overflow_sub-configuration c).Else-not-usable))).fperiod_most in omega (arith, f)
 
 pub returns-then-voice-configuration : goal.returns-then-voice-configuration
 unfolding earlier idle
 returns-then-voice-configuration c =
-    let f = (sizes c.args.voice.configuration (kept_of _ _ _ _ _ (usable_here (goal.at.returns-then-voice-configuration c).Else-not-usable))).fperiod-most in
+    let f = (sizes c.args.voice.configuration (kept_of _ _ _ _ _ (usable_here (goal.at.returns-then-voice-configuration c).Else-not-usable))).fperiod_most in
     let above : most_meter < c.args.voice.meter + c.args.voice.configuration.fperiod = omega (arith, f, c.if-voice-configuration.true) in
     rw (usable_here (goal.at.returns-then-voice-configuration c).Else-not-usable, none_left (goal.at.returns-then-voice-configuration c).Else-voice-ne0, entries (goal.at.returns-then-voice-configuration c).Else-spectrum-configuration, taps (goal.at.returns-then-voice-configuration c).Else-lpf-configuration, ← c.is_finite.ensures, ← c.all_finite.ensures, ← c.all_finite-2.ensures, c.if-not-is_finite-all_finite.false, ← c.all_within.ensures, c.if-configuration-all_within.false, lt-ltb _ _ above) refl
 
 pub returns : goal.returns
 unfolding earlier idle
 returns c =
-    let f = (sizes c.args.voice.configuration (kept_of _ _ _ _ _ (usable_here (goal.at.returns c).Else-not-usable))).fperiod-most in
+    let f = (sizes c.args.voice.configuration (kept_of _ _ _ _ _ (usable_here (goal.at.returns c).Else-not-usable))).fperiod_most in
     let within : c.args.voice.meter + c.args.voice.configuration.fperiod ≤ most_meter = omega (arith, f, c.if-voice-configuration.false) in
     rw (usable_here (goal.at.returns c).Else-not-usable, none_left (goal.at.returns c).Else-voice-ne0, entries (goal.at.returns c).Else-spectrum-configuration, taps (goal.at.returns c).Else-lpf-configuration, ← c.is_finite.ensures, ← c.all_finite.ensures, ← c.all_finite-2.ensures, c.if-not-is_finite-all_finite.false, ← c.all_within.ensures, c.if-configuration-all_within.false, le-ltb _ _ within) refl

@@ -17,7 +17,7 @@ use Rattle.rest.proofs.save.Goals as goal
 use Rattle.rest.proofs.save.Goals.{After-count_of-count, Else-not-usable}
 
 usable_here : (c : Else-not-usable) → acceptable c.args.voice.configuration c.args.voice.meter c.args.voice.left c.args.voice.first c.args.voice.random.used ≡ true
-usable_here c = sym c.usable.ensures ∙ not-false _ c.if-not-usable.false
+usable_here c = sym c.usable.ensures ∙ c.if-not-usable.false
 
 kept : (c : Else-not-usable) → limits_kept c.args.voice.configuration ≡ true
 kept c = kept_of _ _ _ _ _ (usable_here c)
@@ -26,7 +26,7 @@ few : (c : After-count_of-count) → c.count_of-count.result ≤ 917
 few c = let most = count_most _ (kept c.Else-not-usable) in omega (arith, most, c.count_of-count.ensures)
 
 pub returns-then-not-usable : goal.returns-then-not-usable
-returns-then-not-usable c = saves_idle c.args.voice c.args.out.now (sym c.usable.ensures ∙ not-true _ c.if-not-usable.true)
+returns-then-not-usable c = saves_idle c.args.voice c.args.out.now (sym c.usable.ensures ∙ c.if-not-usable.true)
 
 pub count_of-count-requires : goal.count_of-count-requires
 count_of-count-requires c = kept c

@@ -1,14 +1,6 @@
 -- `c2ir` meets its contract: the first n entries are made. Assumes nothing.
-use mathlib.Core.Path.{refl, ap}
 use Prim.Native.Nat.{◌-◌, ◌≤◌}
-use native.Mathlib.Omega.{arith}
-use lib.ListN.{set, replicate}
-use lib.Ieee.{Float}
-use Rattle.number.specs.F64.{0f}
-use Rattle.vectors.specs.Vectors.{grown}
-use Rattle.cepstrum.proofs.CepstrumLaws.{Made, made_more, made_all}
-use Rattle.number.proofs.Floats.{small_float}
-use borrow.Author.Rules.{rules}
+use Rattle.cepstrum.proofs.CepstrumLaws.{Made}
 use Rattle.cepstrum.proofs.cepstrum.c2ir.Given as goal
 
 abbrev pub invariant-loop-n : goal.invariant-loop-n

@@ -1,12 +1,8 @@
 -- `eights_in` meets its contract: the passes that are left, on the array as it is, give what all of them give. Assumes nothing.
-use mathlib.Core.Path.{◌≡◌, ◌∙◌, ap}
-use Prim.Native.Nat.{◌+◌, ◌-◌, ◌≤◌}
-use native.Mathlib.Omega.{arith}
+use mathlib.Core.Path.{◌≡◌}
+use Prim.Native.Nat.{◌-◌, ◌≤◌}
 use lib.ListN.{length, drop}
-use Rattle.number.specs.Lists.{row}
 use Rattle.cepstrum.specs.Cepstrum.{passes}
-use Rattle.cepstrum.proofs.WarpLaws.{wave_passes, passes_row}
-use borrow.Author.Rules.{rules}
 use Rattle.cepstrum.proofs.cepstrum.eights_in.Given as goal
 
 abbrev pub invariant-loop-i : goal.invariant-loop-i

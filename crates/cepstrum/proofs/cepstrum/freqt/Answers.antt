@@ -7,7 +7,6 @@ use lib.Ieee.{Float}
 use lib.ListN.{length, take, drop, length-drop}
 use lib.Seq.{take_all}
 use Rattle.cepstrum.specs.Cepstrum.{passes, freqt_of}
-use borrow.Author.Rules.{rules}
 use Rattle.cepstrum.proofs.cepstrum.freqt.Goals as goal
 
 pub returns : goal.returns

@@ -1,12 +1,9 @@
 -- `ir_sum` meets its contract: the terms that are left give what all of them give. Assumes nothing.
-use mathlib.Core.Path.{◌≡◌, refl, sym, ◌∙◌}
+use mathlib.Core.Path.{◌≡◌}
 use Prim.Native.Nat.{◌+◌, ◌-◌, ◌≤◌}
-use native.Mathlib.Omega.{arith}
 use Rattle.number.specs.F64.{0f}
 use Rattle.vectors.specs.Vectors.{sum_from}
-use Rattle.vectors.proofs.VectorLaws.{sum_turn, sum_done}
 use Rattle.cepstrum.specs.Weights.{weighed_term}
-use borrow.Author.Rules.{rules}
 use Rattle.cepstrum.proofs.cepstrum.ir_sum.Given as goal
 
 abbrev pub invariant-loop-k : goal.invariant-loop-k

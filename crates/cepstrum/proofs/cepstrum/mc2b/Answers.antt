@@ -1,6 +1,5 @@
 -- `mc2b` meets its contract: each arm's call says what the definition's test picks. Assumes nothing.
 use Rattle.cepstrum.specs.Cepstrum.{mc2b_of}
-use borrow.Author.Rules.{rules}
 use Rattle.cepstrum.proofs.cepstrum.mc2b.Goals as goal
 
 pub returns-then-alpha : goal.returns-then-alpha

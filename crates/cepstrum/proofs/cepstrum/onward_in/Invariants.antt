@@ -1,14 +1,9 @@
 -- `onward_in` meets its contract: what is done, with what the definition makes of the rest, is what it makes of all. Assumes nothing.
-use mathlib.Core.Path.{◌≡◌, refl, sym, ◌∙◌}
+use mathlib.Core.Path.{◌≡◌}
 use mathlib.Core.List.{◌++◌}
 use Prim.Native.Nat.{◌-◌, ◌≤◌}
-use native.Mathlib.Omega.{arith}
-use lib.ListN.{length, take, drop, length-set}
-use lib.Ieee.{nan}
-use Rattle.number.specs.F64.{◌⊕◌, ◌⊖◌, ◌⊗◌, ◌‼◌}
-use Rattle.number.proofs.Lists.{front_turn, front_end, left_none}
+use lib.ListN.{length, take, drop}
 use Rattle.cepstrum.specs.Cepstrum.{onward}
-use borrow.Author.Rules.{rules}
 use Rattle.cepstrum.proofs.cepstrum.onward_in.Given as goal
 
 abbrev pub invariant-loop-j : goal.invariant-loop-j

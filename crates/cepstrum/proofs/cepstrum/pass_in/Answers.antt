@@ -3,7 +3,6 @@ use mathlib.Core.Path.{◌∙◌}
 use native.Mathlib.Omega.{arith}
 use lib.ListN.{length-set}
 use Rattle.cepstrum.proofs.CepstrumLaws.{pass_two}
-use borrow.Author.Rules.{rules}
 use Rattle.cepstrum.proofs.cepstrum.pass_in.Goals as goal
 
 pub shape_of-g : goal.shape_of-g

@@ -1,11 +1,10 @@
 -- `singles_in` meets its contract: the passes that are left, on the array as it is, give what all of them give. Assumes nothing.
-use mathlib.Core.Path.{◌≡◌, sym, ◌∙◌, ap}
-use Prim.Native.Nat.{◌+◌, ◌-◌, ◌≤◌}
+use mathlib.Core.Path.{sym, ◌∙◌, ap}
+use Prim.Native.Nat.{◌+◌}
 use native.Mathlib.Omega.{arith}
-use lib.ListN.{length, drop}
+use lib.ListN.{drop}
 use Rattle.cepstrum.specs.Cepstrum.{passes}
 use Rattle.cepstrum.proofs.CepstrumLaws.{passes_turn, passes_done}
-use borrow.Author.Rules.{rules}
 use Rattle.cepstrum.proofs.cepstrum.singles_in.Goals as goal
 
 pub loop-i-preserved : goal.loop-i-preserved

@@ -1,11 +1,9 @@
 -- `unwarp` meets its contract: from index i on, the slice is the definition's answer on c from index i on. Assumes nothing.
 use mathlib.Core.Path.{◌≡◌}
-use Prim.Native.Nat.{◌+◌, ◌-◌, ◌<◌}
+use Prim.Native.Nat.{◌+◌, ◌-◌}
 use native.Mathlib.Omega.{arith}
-use lib.ListN.{length, drop, length-set}
-use Rattle.cepstrum.specs.Cepstrum.{unwarped}
+use lib.ListN.{length, length-set}
 use Rattle.cepstrum.proofs.CepstrumLaws.{unwarped_last, unwarped_turn}
-use borrow.Author.Rules.{rules}
 use Rattle.cepstrum.proofs.cepstrum.unwarp.Goals as goal
 
 pub loop-i-init : goal.loop-i-init

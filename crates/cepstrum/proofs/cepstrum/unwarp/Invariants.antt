@@ -1,11 +1,8 @@
 -- `unwarp` meets its contract: from index i on, the slice is the definition's answer on c from index i on. Assumes nothing.
 use mathlib.Core.Path.{◌≡◌}
-use Prim.Native.Nat.{◌+◌, ◌-◌, ◌<◌}
-use native.Mathlib.Omega.{arith}
-use lib.ListN.{length, drop, length-set}
+use Prim.Native.Nat.{◌<◌}
+use lib.ListN.{length, drop}
 use Rattle.cepstrum.specs.Cepstrum.{unwarped}
-use Rattle.cepstrum.proofs.CepstrumLaws.{unwarped_last, unwarped_turn}
-use borrow.Author.Rules.{rules}
 use Rattle.cepstrum.proofs.cepstrum.unwarp.Given as goal
 
 abbrev pub invariant-loop-i : goal.invariant-loop-i

@@ -1,16 +1,13 @@
 -- `weights` meets its contract: the first k weights are made. Assumes nothing.
 use mathlib.Core.Path.{◌≡◌, refl, ◌∙◌}
-use Prim.Native.Nat.{◌-◌, ◌≤◌}
 use native.Mathlib.Omega.{arith}
-use lib.ListN.{length, length-set, replicate}
+use lib.ListN.{length-set, replicate}
 use Rattle.number.specs.F64.{0f}
-use Rattle.number.specs.Lists.{over}
 use Rattle.number.proofs.Lists.{over_end}
 use Rattle.number.proofs.Floats.{small_float}
 use Rattle.vectors.specs.Vectors.{grown}
 use Rattle.cepstrum.specs.Weights.{weights_of}
 use Rattle.cepstrum.proofs.CepstrumLaws.{weights_turn}
-use borrow.Author.Rules.{rules}
 use Rattle.cepstrum.proofs.cepstrum.weights.Goals as goal
 
 pub loop-k-init : goal.loop-k-init

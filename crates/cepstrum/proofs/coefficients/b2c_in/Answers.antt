@@ -2,7 +2,6 @@
 use mathlib.Core.Path.{ap, ◌∙◌}
 use Rattle.number.specs.F64.{−◌}
 use Rattle.cepstrum.specs.Cepstrum.{freqt_of}
-use borrow.Author.Rules.{rules}
 use Rattle.cepstrum.proofs.coefficients.b2c_in.Goals as goal
 
 pub returns : goal.returns

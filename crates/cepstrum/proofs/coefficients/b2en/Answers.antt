@@ -2,7 +2,6 @@
 use mathlib.Core.Path.{ap, ◌∙◌}
 use Rattle.vectors.specs.Vectors.{energy_of}
 use Rattle.cepstrum.specs.Cepstrum.{c2ir_of, energy_on, b2en_of}
-use borrow.Author.Rules.{rules}
 use Rattle.cepstrum.proofs.coefficients.b2en.Goals as goal
 
 pub returns : goal.returns

@@ -1,11 +1,8 @@
 -- `b2mc` meets its contract: from index i on, the slice is the definition's answer on b from index i on. Assumes nothing.
 use mathlib.Core.Path.{◌≡◌}
-use Prim.Native.Nat.{◌+◌, ◌-◌, ◌<◌}
-use native.Mathlib.Omega.{arith}
-use lib.ListN.{length, drop, length-set}
+use Prim.Native.Nat.{◌<◌}
+use lib.ListN.{length, drop}
 use Rattle.cepstrum.specs.Cepstrum.{b2mc_of}
-use Rattle.cepstrum.proofs.CepstrumLaws.{b2mc_last, b2mc_turn}
-use borrow.Author.Rules.{rules}
 use Rattle.cepstrum.proofs.coefficients.b2mc.Given as goal
 
 abbrev pub invariant-loop-i : goal.invariant-loop-i

@@ -14,7 +14,7 @@ long_targets : (c : Start) → length c.args.voice.targets ≡ 64
 long_targets c = search rules
 
 pub slice_bounds-copy-end : goal.slice_bounds-copy-end
-slice_bounds-copy-end c = omega (arith, (sizes c.args.voice.configuration c.requires.0).nmcp-most, c.requires.1, long_targets (goal.at.slice_bounds-copy-end c).Start)
+slice_bounds-copy-end c = omega (arith, (sizes c.args.voice.configuration c.requires.0).nmcp_most, c.requires.1, long_targets (goal.at.slice_bounds-copy-end c).Start)
 
 pub returns-then-voice-eq0 : goal.returns-then-voice-eq0
 returns-then-voice-eq0 c =

@@ -24,10 +24,10 @@ few c =
     omega (arith, simp (length-append, length-drop) at (ap length c.stretch-filled.ensures.out_after), c.stretch-filled.ensures.made_value, kept, c.requires.1)
 
 pub slice_bounds-line-end : goal.slice_bounds-line-end
-slice_bounds-line-end c = omega (arith, (sizes c.args.voice.configuration c.requires.0).nlpf-most, long_line (goal.at.slice_bounds-line-end c).Start)
+slice_bounds-line-end c = omega (arith, (sizes c.args.voice.configuration c.requires.0).nlpf_most, long_line (goal.at.slice_bounds-line-end c).Start)
 
 pub slice_bounds-stretch-end : goal.slice_bounds-stretch-end
-slice_bounds-stretch-end c = omega (arith, (sizes c.args.voice.configuration c.requires.0).nlpf-most, long_lpf (goal.at.slice_bounds-stretch-end c).Start)
+slice_bounds-stretch-end c = omega (arith, (sizes c.args.voice.configuration c.requires.0).nlpf_most, long_lpf (goal.at.slice_bounds-stretch-end c).Start)
 
 pub overflow_add-after : goal.overflow_add-after
 overflow_add-after c = omega (arith, few (goal.at.overflow_add-after c).After-stretch-filled, c.requires.2)
@@ -37,6 +37,6 @@ overflow_sub-after c = omega (arith, few (goal.at.overflow_sub-after c).After-st
 
 pub returns : goal.returns
 returns c =
-    let line : length c.stretch-filled.new.line ≡ c.args.voice.configuration.nlpf = c.stretch-filled.auto.line ∙ lent_length c.args.voice.configuration.nlpf c.args.voice.line (omega (arith, (sizes c.args.voice.configuration c.requires.0).nlpf-most, long_line (goal.at.returns c).Start)) in
+    let line : length c.stretch-filled.new.line ≡ c.args.voice.configuration.nlpf = c.stretch-filled.auto.line ∙ lent_length c.args.voice.configuration.nlpf c.args.voice.line (omega (arith, (sizes c.args.voice.configuration c.requires.0).nlpf_most, long_line (goal.at.returns c).Start)) in
     let same = excited_is c.args.voice tries (length c.args.samples.now) in
     record { voice_value = excited_voice c.args.voice _ _ _ _ _ (rw same at c.stretch-filled.ensures.line_after) line; made_value = rw same at c.stretch-filled.ensures.made_value; samples_after = rw same at c.stretch-filled.ensures.out_after }

@@ -22,16 +22,16 @@ long_targets c = search rules
 
 -- the coefficients that are lent are nmcp
 entries : (c : Start) → length c.args.c.now ≡ c.args.voice.configuration.nmcp
-entries c = ap length c.requires.1 ∙ length-take-le c.args.voice.configuration.nmcp c.args.voice.coefficients (omega (arith, (sizes c.args.voice.configuration c.requires.0).nmcp-most, long_coefficients c))
+entries c = ap length c.requires.1 ∙ length-take-le c.args.voice.configuration.nmcp c.args.voice.coefficients (omega (arith, (sizes c.args.voice.configuration c.requires.0).nmcp_most, long_coefficients c))
 
 pub slice_bounds-stretch-end : goal.slice_bounds-stretch-end
-slice_bounds-stretch-end c = omega (arith, (sizes c.args.voice.configuration c.requires.0).nmcp-most, entries (goal.at.slice_bounds-stretch-end c).Start, long_increments (goal.at.slice_bounds-stretch-end c).Start)
+slice_bounds-stretch-end c = omega (arith, (sizes c.args.voice.configuration c.requires.0).nmcp_most, entries (goal.at.slice_bounds-stretch-end c).Start, long_increments (goal.at.slice_bounds-stretch-end c).Start)
 
 pub stretch-zero-requires : goal.stretch-zero-requires
 stretch-zero-requires c =
     let size = sizes c.args.voice.configuration c.requires.0 in
     let n = length c.args.c.now in
-    (omega (arith, entries (goal.at.stretch-zero-requires c).Start, size.nmcp-least), omega (arith, entries (goal.at.stretch-zero-requires c).Start, size.nmcp-most), lent_length n c.args.voice.increments (omega (arith, entries (goal.at.stretch-zero-requires c).Start, size.nmcp-most, long_increments (goal.at.stretch-zero-requires c).Start)))
+    (omega (arith, entries (goal.at.stretch-zero-requires c).Start, size.nmcp_least), omega (arith, entries (goal.at.stretch-zero-requires c).Start, size.nmcp_most), lent_length n c.args.voice.increments (omega (arith, entries (goal.at.stretch-zero-requires c).Start, size.nmcp_most, long_increments (goal.at.stretch-zero-requires c).Start)))
 
 pub close-pulse-requires : goal.close-pulse-requires
 close-pulse-requires c = (c.requires.0, c.stretch-zero.auto.c ∙ entries (goal.at.close-pulse-requires c).Start)
@@ -40,4 +40,4 @@ pub returns : goal.returns
 returns c =
     let over-them = filtered_zero c.args.voice (length c.args.c.now) (entries (goal.at.returns c).Start) _ _ _ c.args.c.now c.requires.1 c.stretch-zero.result (eq-eqb _ _ c.requires.2) c.stretch-zero.ensures in
     let some : length c.stretch-zero.new.c ≡ c.args.voice.configuration.nmcp = c.stretch-zero.auto.c ∙ entries (goal.at.returns c).Start in
-    ended_is c.args.voice _ _ _ _ _ some (omega (arith, (sizes c.args.voice.configuration c.requires.0).nmcp-most, long_targets (goal.at.returns c).Start)) over-them _ _ c.close-pulse.ensures
+    ended_is c.args.voice _ _ _ _ _ some (omega (arith, (sizes c.args.voice.configuration c.requires.0).nmcp_most, long_targets (goal.at.returns c).Start)) over-them _ _ c.close-pulse.ensures

@@ -15,12 +15,12 @@ long_coefficients : (c : Start) → length c.args.voice.coefficients ≡ 64
 long_coefficients c = search rules
 
 pub slice_bounds-c-end : goal.slice_bounds-c-end
-slice_bounds-c-end c = omega (arith, (sizes c.args.voice.configuration c.requires).nmcp-most, long_coefficients (goal.at.slice_bounds-c-end c).Start)
+slice_bounds-c-end c = omega (arith, (sizes c.args.voice.configuration c.requires).nmcp_most, long_coefficients (goal.at.slice_bounds-c-end c).Start)
 
 pub filter_stage-remains-requires : goal.filter_stage-remains-requires
 filter_stage-remains-requires c = (c.requires, lent_front c.args.voice.configuration.nmcp c.args.voice.coefficients)
 
 pub returns : goal.returns
 returns c =
-    let entries : length c.filter_stage-remains.new.c ≡ c.args.voice.configuration.nmcp = c.filter_stage-remains.auto.c ∙ lent_length c.args.voice.configuration.nmcp c.args.voice.coefficients (omega (arith, (sizes c.args.voice.configuration c.requires).nmcp-most, long_coefficients (goal.at.returns c).Start)) in
+    let entries : length c.filter_stage-remains.new.c ≡ c.args.voice.configuration.nmcp = c.filter_stage-remains.auto.c ∙ lent_length c.args.voice.configuration.nmcp c.args.voice.coefficients (omega (arith, (sizes c.args.voice.configuration c.requires).nmcp_most, long_coefficients (goal.at.returns c).Start)) in
     ap (λ (w : Voice). passage c.filter_stage-remains.new.samples w) (finished_voice c.args.voice c.filter_stage-remains.new.c c.filter_stage-remains.result entries) ∙ c.filter_stage-remains.ensures

@@ -25,6 +25,6 @@ finish-requires c = rw c.excite-excited.ensures.voice_value c.requires.0
 pub returns : goal.returns
 returns c =
     let size = sizes c.args.voice.configuration c.requires.0 in
-    let long : Long c.args.voice = record { line = omega (arith, size.nlpf-most, long_line (goal.at.returns c).Start); coefficients = omega (arith, size.nmcp-most, long_coefficients (goal.at.returns c).Start) } in
+    let long : Long c.args.voice = record { line = omega (arith, size.nlpf_most, long_line (goal.at.returns c).Start); coefficients = omega (arith, size.nmcp_most, long_coefficients (goal.at.returns c).Start) } in
     let r = sounded_is tries (length c.args.samples.now) c.args.voice long c.requires.3 c.requires.1 _ _ _ _ _ _ c.excite-excited.ensures.voice_value c.excite-excited.ensures.made_value c.excite-excited.ensures.samples_after c.finish.ensures in
     record { voice_value = r.0; made_value = r.1; samples_after = r.2 }

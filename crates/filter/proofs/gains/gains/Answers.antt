@@ -10,14 +10,14 @@ use Rattle.history.specs.Through.{Passage, through}
 use Rattle.history.proofs.ThroughLaws.{from_here, through_all, through_block, length_block, through_end}
 use Rattle.filter.specs.Zero.{gain_of}
 use Rattle.filter.proofs.gains.gains.Goals as goal
-use Rattle.filter.proofs.gains.gains.Goals.{Joined-left-lt128}
+use Rattle.filter.proofs.gains.gains.Goals.{Joined-left-lt128, then-left-lt128, else-left-lt128}
 
 pub loop-i-init : goal.loop-i-init
 loop-i-init c = (omega arith, refl, through_all _ _ _)
 
 -- a block is not empty, has room in the arrays, and is a part of the samples
 size_is : (c : Joined-left-lt128) → (1 ≤ c.if-left-lt128.n) × (c.if-left-lt128.n ≤ 128) × (c.loop-i.i + c.if-left-lt128.n ≤ length c.loop-i.samples)
-size_is c = ⊎_elim (λ w. (omega arith, omega arith, omega arith)) (λ w. (omega arith, omega arith, omega arith)) c.if-left-lt128.branch
+size_is c = elim c.if-left-lt128.branch [ then-left-lt128 w ↦ (omega arith, omega arith, omega arith) | else-left-lt128 w ↦ (omega arith, omega arith, omega arith) ]
 
 pub overflow_add-i : goal.overflow_add-i
 overflow_add-i c = omega (arith, size_is (goal.at.overflow_add-i c).Joined-left-lt128)

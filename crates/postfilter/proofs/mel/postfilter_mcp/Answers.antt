@@ -9,15 +9,15 @@ use Rattle.postfilter.proofs.mel.postfilter_mcp.Goals as goal
 
 pub returns-then-not-acting : goal.returns-then-not-acting
 returns-then-not-acting c =
-    let d = mcp_rests c.args.alpha c.args.beta c.args.c.now (sym c.acting.ensures ∙ not-true _ c.if-not-acting.true) in
+    let d = mcp_rests c.args.alpha c.args.beta c.args.c.now (sym c.acting.ensures ∙ c.if-not-acting.true) in
     record { value = rw d refl; c_after = rw d refl }
 
 pub filter_in-requires : goal.filter_in-requires
 filter_in-requires c =
-    let long = acts_long c.args.beta (length c.args.c.now) (sym c.acting.ensures ∙ not-false _ c.if-not-acting.false) in
+    let long = acts_long c.args.beta (length c.args.c.now) (sym c.acting.ensures ∙ c.if-not-acting.false) in
     (long, omega arith, omega (arith, long), omega (arith, long))
 
 pub returns : goal.returns
 returns c =
-    let d = mcp_acts c.args.alpha c.args.beta c.args.c.now (sym c.acting.ensures ∙ not-false _ c.if-not-acting.false) in
+    let d = mcp_acts c.args.alpha c.args.beta c.args.c.now (sym c.acting.ensures ∙ c.if-not-acting.false) in
     record { value = rw d c.filter_in.ensures.value; c_after = rw d c.filter_in.ensures.c_after }

@@ -17,14 +17,14 @@ returns-then-en1-en2 c =
 pub returns-then-not-log : goal.returns-then-not-log
 unfolding ne
 returns-then-not-log c =
-    rw (level_root c.args.log c.args.en1 c.args.en2 c.args.x (ap not c.if-en1-en2.false) (not-true _ c.if-not-log.true)) (ap (λ (y : Float). Inside (c.args.x ⊗ y)) c.sqrt.ensures)
+    rw (level_root c.args.log c.args.en1 c.args.en2 c.args.x (ap not c.if-en1-en2.false) (c.if-not-log.true)) (ap (λ (y : Float). Inside (c.args.x ⊗ y)) c.sqrt.ensures)
 
 pub returns-in-Inside : goal.returns-in-Inside
 unfolding ne
 returns-in-Inside c =
-    rw (level_log c.args.log c.args.en1 c.args.en2 c.args.x (ap not c.if-en1-en2.false) (not-false _ c.if-not-log.false) _ c.ln-ratio.ensures.value _ c.in-Inside.is) refl
+    rw (level_log c.args.log c.args.en1 c.args.en2 c.args.x (ap not c.if-en1-en2.false) (c.if-not-log.false) _ c.ln-ratio.ensures.value _ c.in-Inside.is) refl
 
 pub returns-in-Outside : goal.returns-in-Outside
 unfolding ne
 returns-in-Outside c =
-    rw (level_outside c.args.log c.args.en1 c.args.en2 c.args.x (ap not c.if-en1-en2.false) (not-false _ c.if-not-log.false) _ c.ln-ratio.ensures.value c.in-Outside.is) refl
+    rw (level_outside c.args.log c.args.en1 c.args.en2 c.args.x (ap not c.if-en1-en2.false) (c.if-not-log.false) _ c.ln-ratio.ensures.value c.in-Outside.is) refl

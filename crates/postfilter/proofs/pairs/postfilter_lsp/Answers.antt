@@ -9,15 +9,15 @@ use Rattle.postfilter.proofs.pairs.postfilter_lsp.Goals as goal
 
 pub returns-then-not-acting : goal.returns-then-not-acting
 returns-then-not-acting c =
-    let d = lsp_rests c.args.beta c.args.log c.args.s c.args.lsp.now (sym c.acting.ensures ∙ not-true _ c.if-not-acting.true) in
+    let d = lsp_rests c.args.beta c.args.log c.args.s c.args.lsp.now (sym c.acting.ensures ∙ c.if-not-acting.true) in
     record { value = rw d refl; lsp_after = rw d refl }
 
 pub filter_in-requires : goal.filter_in-requires
 filter_in-requires c =
-    let long = acts_long c.args.beta (length c.args.lsp.now) (sym c.acting.ensures ∙ not-false _ c.if-not-acting.false) in
+    let long = acts_long c.args.beta (length c.args.lsp.now) (sym c.acting.ensures ∙ c.if-not-acting.false) in
     (long, omega arith, omega (arith, long), omega arith)
 
 pub returns : goal.returns
 returns c =
-    let d = lsp_acts c.args.beta c.args.log c.args.s c.args.lsp.now (sym c.acting.ensures ∙ not-false _ c.if-not-acting.false) in
+    let d = lsp_acts c.args.beta c.args.log c.args.s c.args.lsp.now (sym c.acting.ensures ∙ c.if-not-acting.false) in
     record { value = rw d c.filter_in.ensures.value; lsp_after = rw d c.filter_in.ensures.lsp_after }

@@ -11,13 +11,13 @@ use Rattle.reading.proofs.check.is_sound.Goals.{Else-count_of-slots}
 here : (c : Else-count_of-slots) → Room c.configuration_in-c.result (length c.args.slots.now)
 here c =
     let this : count_of c.configuration_in-c.result ≡ length c.args.slots.now = omega (arith, c.count_of.ensures, c.if-count_of-slots.false) in
-    room_with _ _ (sym c.kept.ensures ∙ not-false _ c.if-not-kept.false) this
+    room_with _ _ (sym c.kept.ensures ∙ c.if-not-kept.false) this
 
 pub returns-then-not-kept : goal.returns-then-not-kept
-returns-then-not-kept c = unsound_limits c.args.slots.now c.configuration_in-c.result c.configuration_in-c.ensures (sym c.kept.ensures ∙ not-true _ c.if-not-kept.true)
+returns-then-not-kept c = unsound_limits c.args.slots.now c.configuration_in-c.result c.configuration_in-c.ensures (sym c.kept.ensures ∙ c.if-not-kept.true)
 
 pub count_of-requires : goal.count_of-requires
-count_of-requires c = sym c.kept.ensures ∙ not-false _ c.if-not-kept.false
+count_of-requires c = sym c.kept.ensures ∙ c.if-not-kept.false
 
 pub returns-then-count_of-slots : goal.returns-then-count_of-slots
 returns-then-count_of-slots c =

@@ -15,11 +15,11 @@ loop-i-init c = (omega arith, refl)
 
 pub returns-then-not-within : goal.returns-then-not-within
 unfolding small of_bits neg
-returns-then-not-within c = sym (every_fails small c.args.values.now c.loop-i.i nan (omega arith) (sym c.within.ensures ∙ not-true _ c.if-not-within.true)) ∙ c.loop-i.invariant.1
+returns-then-not-within c = sym (every_fails small c.args.values.now c.loop-i.i nan (omega arith) (sym c.within.ensures ∙ c.if-not-within.true)) ∙ c.loop-i.invariant.1
 
 pub loop-i-preserved : goal.loop-i-preserved
 unfolding small of_bits neg
-loop-i-preserved c = (omega arith, every_turn small c.args.values.now c.loop-i.i nan (omega arith) (sym c.within.ensures ∙ not-false _ c.if-not-within.false) ∙ c.loop-i.invariant.1)
+loop-i-preserved c = (omega arith, every_turn small c.args.values.now c.loop-i.i nan (omega arith) (sym c.within.ensures ∙ c.if-not-within.false) ∙ c.loop-i.invariant.1)
 
 pub returns : goal.returns
 returns c = sym (every_done small c.args.values.now c.loop-i.i nan (omega arith)) ∙ c.loop-i.invariant.1

@@ -1,26 +1,22 @@
 -- `number_at`: two bytes turned by half their range, or the top one of three. Assumes nothing.
 use mathlib.Core.Path.{◌≡◌}
-use Prim.Native.Nat.{◌+◌, ◌*◌, ◌%◌, ◌≤◌, ◌<◌}
+use Prim.Native.Nat.{◌+◌, ◌*◌, ◌%◌, ◌≤◌}
 use native.Mathlib.Omega.{arith}
 use lib.Dec.{lit≤}
 use lib.ListN.{length, get_or}
 use Rattle.riff.specs.Reading.{field}
 use Rattle.riff.proofs.ReadingLaws.{number_is, field_three}
 use Rattle.riff.proofs.reading.number_at.Goals as goal
-use Rattle.riff.proofs.reading.number_at.Goals.{After-shared_slice_known-2-1}
-
-byte : (c : After-shared_slice_known-2-1) → get_or c.args.s.now (c.args.at + 2) 0 < 256
-byte c = omega (arith, c.shared_slice_known-1.given (c.args.at + 2))
 
 pub returns-then-k-eq2 : goal.returns-then-k-eq2
 returns-then-k-eq2 c =
     rw c.if-k-eq2.true (number_is 2 c.args.s.now c.args.at c.two-low.result ((c.two-low.result + 0x8000) % 0x1_0000) _ (lit≤ tt) (omega (arith, c.two-low.ensures.1)) c.two-low.ensures.0 (omega (arith, c.two-low.ensures.1)) c.centred.ensures)
 
 pub overflow_cast-top : goal.overflow_cast-top
-overflow_cast-top c = omega (arith, byte c)
+overflow_cast-top c = omega (arith, c.type_inv.s (c.args.at + 2))
 
 pub overflow_add-top-2 : goal.overflow_add-top-2
-overflow_add-top-2 c = record { fits = omega (arith, byte c) }
+overflow_add-top-2 c = record { fits = omega (arith, c.type_inv.s (c.args.at + 2)) }
 
 pub returns : goal.returns
 returns c =
@@ -28,4 +24,4 @@ returns c =
     let k : c.args.k ≡ 3 = omega arith in
     let room : c.args.at + 3 ≤ length c.args.s.now = omega arith in
     let there : c.two-low.result + 65536 * top ≡ field 3 c.args.s.now c.args.at = rw c.two-low.ensures.0 (field_three c.args.s.now c.args.at room) in
-    rw k (number_is 3 c.args.s.now c.args.at (c.two-low.result + 65536 * top) (c.two-low.result + 0x1_0000 * ((top + 128) % 256)) _ (lit≤ tt) (omega (arith, c.two-low.ensures.1, byte (goal.at.returns c).After-shared_slice_known-2-1)) there (omega (arith, c.two-low.ensures.1, byte (goal.at.returns c).After-shared_slice_known-2-1)) c.centred-2.ensures)
+    rw k (number_is 3 c.args.s.now c.args.at (c.two-low.result + 65536 * top) (c.two-low.result + 0x1_0000 * ((top + 128) % 256)) _ (lit≤ tt) (omega (arith, c.two-low.ensures.1, c.type_inv.s (c.args.at + 2))) there (omega (arith, c.two-low.ensures.1, c.type_inv.s (c.args.at + 2))) c.centred-2.ensures)

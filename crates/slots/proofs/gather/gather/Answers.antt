@@ -19,21 +19,21 @@ pub put_excitation-requires : goal.put_excitation-requires
 put_excitation-requires c = (c.requires.0, omega (arith, count_parts c.args.voice.configuration))
 
 pub spectrum_at-requires : goal.spectrum_at-requires
-spectrum_at-requires c = (small (goal.at.spectrum_at-requires c).Start).nlpf-most
+spectrum_at-requires c = (small (goal.at.spectrum_at-requires c).Start).nlpf_most
 
 pub put_spectrum-requires : goal.put_spectrum-requires
 put_spectrum-requires c =
     (c.requires.0, omega (arith, count_parts c.args.voice.configuration, c.spectrum_at.ensures))
 
 pub filter_at-requires : goal.filter_at-requires
-filter_at-requires c = let f = small (goal.at.filter_at-requires c).Start in (f.nlpf-most, f.nmcp-most)
+filter_at-requires c = let f = small (goal.at.filter_at-requires c).Start in (f.nlpf_most, f.nmcp_most)
 
 pub put_zero-requires : goal.put_zero-requires
 put_zero-requires c =
     (c.requires.0, omega (arith, c.if-c-eq0.true), omega (arith, count_parts c.args.voice.configuration, c.filter_at.ensures, c.put_head.auto.slots, c.put_excitation.auto.slots, c.put_spectrum.auto.slots))
 
 pub filter_at-requires-else-c-eq0 : goal.filter_at-requires-else-c-eq0
-filter_at-requires-else-c-eq0 c = let f = small (goal.at.filter_at-requires-else-c-eq0 c).Start in (f.nlpf-most, f.nmcp-most)
+filter_at-requires-else-c-eq0 c = let f = small (goal.at.filter_at-requires-else-c-eq0 c).Start in (f.nlpf_most, f.nmcp_most)
 
 pub put_nonzero-requires : goal.put_nonzero-requires
 put_nonzero-requires c =

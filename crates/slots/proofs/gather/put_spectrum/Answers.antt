@@ -11,15 +11,15 @@ long c = held_long c.args.voice _ c.well_formed.0
 
 pub slice_bounds-put_floats-end : goal.slice_bounds-put_floats-end
 slice_bounds-put_floats-end c =
-    omega (arith, (long (goal.at.slice_bounds-put_floats-end c).Start).coefficients, (sizes c.args.voice.configuration c.requires.0).nmcp-most)
+    omega (arith, (long (goal.at.slice_bounds-put_floats-end c).Start).coefficients, (sizes c.args.voice.configuration c.requires.0).nmcp_most)
 
 pub slice_bounds-put_floats-end-2 : goal.slice_bounds-put_floats-end-2
 slice_bounds-put_floats-end-2 c =
-    omega (arith, (long (goal.at.slice_bounds-put_floats-end-2 c).Start).increments, (sizes c.args.voice.configuration c.requires.0).nmcp-most)
+    omega (arith, (long (goal.at.slice_bounds-put_floats-end-2 c).Start).increments, (sizes c.args.voice.configuration c.requires.0).nmcp_most)
 
 pub slice_bounds-put_floats-end-3 : goal.slice_bounds-put_floats-end-3
 slice_bounds-put_floats-end-3 c =
-    omega (arith, (long (goal.at.slice_bounds-put_floats-end-3 c).Start).targets, (sizes c.args.voice.configuration c.requires.0).nmcp-most)
+    omega (arith, (long (goal.at.slice_bounds-put_floats-end-3 c).Start).targets, (sizes c.args.voice.configuration c.requires.0).nmcp_most)
 
 pub returns : goal.returns
 returns c =

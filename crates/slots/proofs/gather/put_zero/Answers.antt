@@ -11,7 +11,7 @@ long c = held_long c.args.voice _ c.well_formed.0
 
 pub overflow_mul-rows : goal.overflow_mul-rows
 overflow_mul-rows c =
-    record { fits = omega (arith, (sizes c.args.voice.configuration c.requires.0).nmcp-most) }
+    record { fits = omega (arith, (sizes c.args.voice.configuration c.requires.0).nmcp_most) }
 
 pub slice_bounds-put_floats-end : goal.slice_bounds-put_floats-end
 slice_bounds-put_floats-end c = omega (arith, (long (goal.at.slice_bounds-put_floats-end c).Start).d11)
@@ -36,7 +36,7 @@ put_floats-requires-3 c =
 
 pub slice_bounds-put_floats-end-4 : goal.slice_bounds-put_floats-end-4
 slice_bounds-put_floats-end-4 c =
-    omega (arith, (long (goal.at.slice_bounds-put_floats-end-4 c).Start).d21, (sizes c.args.voice.configuration c.requires.0).nmcp-most)
+    omega (arith, (long (goal.at.slice_bounds-put_floats-end-4 c).Start).d21, (sizes c.args.voice.configuration c.requires.0).nmcp_most)
 
 pub put_floats-requires-4 : goal.put_floats-requires-4
 put_floats-requires-4 c = omega (arith, filter_zero c.args.voice.configuration c.requires.1)
