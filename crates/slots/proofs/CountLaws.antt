@@ -88,17 +88,17 @@ held_long v vs held =
     let zero = arrays.1.1.1.1.1.1.0.1.1 in
     let nonzero = arrays.1.1.1.1.1.1.1.0.1.1 in
     record {
-      line = length_unmapped Float v.line 64 arrays.0.1.0.1;
-      lpf = length_unmapped Float v.lpf 64 arrays.1.0.1.0.1;
-      queue = length_unmapped Float v.random.queue 64 random.1.1.0.1.0.1;
-      coefficients = length_unmapped Float v.coefficients 64 arrays.1.1.1.0.1.0.1;
-      increments = length_unmapped Float v.increments 64 arrays.1.1.1.1.0.1.0.1;
-      targets = length_unmapped Float v.targets 64 arrays.1.1.1.1.1.0.1.0.1;
-      d11 = length_unmapped Float v.zero.d11 6 zero.0.1.0.1;
-      d12 = length_unmapped Float v.zero.d12 6 zero.1.0.1.0.1;
-      d21 = length_unmapped Float v.zero.d21 384 zero.1.1.0.1.0.1;
-      d22 = length_unmapped Float v.zero.d22 6 zero.1.1.1.0.1.0.1;
-      d = length_unmapped Float v.nonzero.d 512 nonzero.0.1.0.1;
+      line = arrays.0.1.0.1;
+      lpf = arrays.1.0.1.0.1;
+      queue = random.1.1.0.1.0.1;
+      coefficients = arrays.1.1.1.0.1.0.1;
+      increments = arrays.1.1.1.1.0.1.0.1;
+      targets = arrays.1.1.1.1.1.0.1.0.1;
+      d11 = zero.0.1.0.1;
+      d12 = zero.1.0.1.0.1;
+      d21 = zero.1.1.0.1.0.1;
+      d22 = zero.1.1.1.0.1.0.1;
+      d = nonzero.0.1.0.1;
     }
 
 module _ (v : Voice) (long : Long v) (kept : limits_kept v.configuration ≡ true) where

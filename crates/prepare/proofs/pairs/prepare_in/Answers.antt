@@ -24,12 +24,12 @@ pub copy-requires-2 : goal.copy-requires-2
 copy-requires-2 c =
     let n : length c.copy.new.to ≡ length c.args.b.now = c.copy.auto.to in
     let m : length c.start_in-started.new.b ≡ length c.copy.new.to = c.start_in-started.auto.b in
-    c.requires.start_len ∙ sym (m ∙ n ∙ c.requires.mgc_len.1)
+    c.requires.start_len.0 ∙ sym (m ∙ n ∙ c.requires.mgc_len.1)
 
 pub copy-requires-3 : goal.copy-requires-3
 copy-requires-3 c =
     let n : length c.targets_in-targeted.new.b ≡ length c.args.t.now = c.targets_in-targeted.auto.b in
-    c.requires.mgc_len.1.1 ∙ sym (n ∙ c.requires.mgc_len.2)
+    c.requires.start_len.1 ∙ sym (n ∙ c.requires.mgc_len.2)
 
 pub returns : goal.returns
 returns c =
