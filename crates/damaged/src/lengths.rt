@@ -39,19 +39,11 @@ fn try_others(
 ) -> io::Result<()>
     requires { (1488 ≤ count) × (count + 48 ≤ length room.now) }
 {
+    let first = count - 40;
     let before = count - 1;
     let record_before = count - 16;
     let after = count + 1;
-    try_lengths(
-        rt,
-        b"shorter by bytes",
-        room,
-        count - 40,
-        before,
-        1,
-        other,
-        kept,
-    )?;
+    try_lengths(rt, b"shorter by bytes", room, first, before, 1, other, kept)?;
     try_lengths(
         rt,
         b"shorter by records",

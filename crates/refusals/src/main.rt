@@ -299,44 +299,16 @@ fn give_others(rt: &impl Print) -> io::Result<()> {
     let fine = [GAIN, FIRST_PAIR, 1.5, 2.0];
     let lpf = [0.5, 0.25];
     let top = 1.0 / 0.0;
-    give_named(
-        rt,
-        b"infinite entry",
-        1,
-        0.0,
-        LF0,
-        &[GAIN, top, 1.5, 2.0],
-        &lpf,
-    )?;
+    let infinite = [GAIN, top, 1.5, 2.0];
+    let largest = [GAIN, LARGEST, 1.5, 2.0];
+    let beyond = [GAIN, BEYOND, 1.5, 2.0];
+    let equal = [GAIN, 1.5, 1.5, 1.5];
+    give_named(rt, b"infinite entry", 1, 0.0, LF0, &infinite, &lpf)?;
     give_named(rt, b"infinite tap", 1, 0.0, LF0, &fine, &[0.5, top])?;
     give_named(rt, b"lf0 not a number", 1, 0.0, top - top, &fine, &lpf)?;
-    give_named(
-        rt,
-        b"largest entry",
-        1,
-        0.0,
-        LF0,
-        &[GAIN, LARGEST, 1.5, 2.0],
-        &lpf,
-    )?;
-    give_named(
-        rt,
-        b"entry beyond at stage 0",
-        0,
-        0.0,
-        LF0,
-        &[GAIN, BEYOND, 1.5, 2.0],
-        &lpf,
-    )?;
-    give_named(
-        rt,
-        b"equal pairs",
-        1,
-        0.5,
-        LF0,
-        &[GAIN, 1.5, 1.5, 1.5],
-        &lpf,
-    )
+    give_named(rt, b"largest entry", 1, 0.0, LF0, &largest, &lpf)?;
+    give_named(rt, b"entry beyond at stage 0", 0, 0.0, LF0, &beyond, &lpf)?;
+    give_named(rt, b"equal pairs", 1, 0.5, LF0, &equal, &lpf)
 }
 
 fn main(rt: HostRuntime) -> io::Result<()> {
