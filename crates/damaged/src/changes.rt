@@ -3,6 +3,7 @@ ghost use Rattle.std.specs.Prelude.{◌+◌, ◌≤◌, ◌<◌, length};
 
 use crate::tally;
 use crate::tally::Tally;
+use std::io;
 use voice::Voice;
 
 // The bytes of a record.
@@ -15,43 +16,37 @@ fn turn_bits(before: Tally, records: &mut [u8], at: usize, other: Voice, kept: &
     let byte = records[at];
     let mut tally = before;
     let mut bit: u8 = 1;
-    let mut i: usize = 0;
-    while i < 8 {
+    for _ in 0..8 {
         records[at] = byte ^ bit;
         tally = tally::attempt(tally, records, other, kept);
         bit = bit << 1;
-        i += 1;
     }
     records[at] = byte;
     tally
 }
 
 // Turns each bit of the records.
-fn turn_all(records: &mut [u8], other: Voice, kept: &[u8]) {
+fn turn_all(rt: &impl Print, records: &mut [u8], other: Voice, kept: &[u8]) -> io::Result<()> {
     let mut tally = Tally::new();
-    let mut at = 0;
-    while at < records.len() {
+    for at in 0..records.len() {
         tally = turn_bits(tally, records, at, other, kept);
-        at += 1;
     }
-    tally::print(b"a bit turned", tally);
+    tally::print(rt, b"a bit turned", tally)
 }
 
 // Exchanges the two records from `at` on.
 fn exchange(records: &mut [u8], at: usize)
     requires { at + 32 ≤ length records.old }
 {
-    let mut i = 0;
-    while i < RECORD {
+    for i in 0..RECORD {
         let byte = records[at + i];
         records[at + i] = records[at + RECORD + i];
         records[at + RECORD + i] = byte;
-        i += 1;
     }
 }
 
 // Exchanges each two neighbours, and exchanges them back.
-fn exchange_all(records: &mut [u8], other: Voice, kept: &[u8]) {
+fn exchange_all(rt: &impl Print, records: &mut [u8], other: Voice, kept: &[u8]) -> io::Result<()> {
     let mut tally = Tally::new();
     let mut at = 0;
     while 2 * RECORD <= records.len() - at {
@@ -60,11 +55,11 @@ fn exchange_all(records: &mut [u8], other: Voice, kept: &[u8]) {
         exchange(records, at);
         at += RECORD;
     }
-    tally::print(b"neighbours exchanged", tally);
+    tally::print(rt, b"neighbours exchanged", tally)
 }
 
 // Both kinds.
-pub fn all(records: &mut [u8], other: Voice, kept: &[u8]) {
-    turn_all(records, other, kept);
-    exchange_all(records, other, kept);
+pub fn all(rt: &impl Print, records: &mut [u8], other: Voice, kept: &[u8]) -> io::Result<()> {
+    turn_all(rt, records, other, kept)?;
+    exchange_all(rt, records, other, kept)
 }

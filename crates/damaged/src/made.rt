@@ -30,11 +30,9 @@ fn configuration(nmcp: usize, nlpf: usize, stage: u64, fperiod: usize) -> Config
 // Fills with numbers that go by equal steps.
 fn fill(values: &mut [f64], first: f64, step: f64) {
     let mut next = first;
-    let mut i = 0;
-    while i < values.len() {
+    for i in 0..values.len() {
         values[i] = next;
         next = next + step;
-        i += 1;
     }
 }
 

@@ -1,6 +1,6 @@
 // What became of the damaged records.
-use libc::STDOUT_FILENO;
 use number::wrapping::wrapping_add;
+use std::io;
 use voice::Voice;
 use voice::answers::{DONE, RECORDS_WRONG};
 
@@ -33,15 +33,13 @@ impl Tally {
 
 // Whether the bytes begin with these.
 fn begins(bytes: &[u8], these: &[u8]) -> bool {
-    let mut i = 0;
-    while i < these.len() {
+    for i in 0..these.len() {
         if i >= bytes.len() {
             return false;
         }
         if bytes[i] != these[i] {
             return false;
         }
-        i += 1;
     }
     true
 }
@@ -67,18 +65,18 @@ pub fn attempt(before: Tally, bytes: &[u8], other: Voice, kept: &[u8]) -> Tally 
 }
 
 // Writes a number and what it counts.
-fn print_count(n: u64, what: &[u8]) {
-    io::print_decimal(STDOUT_FILENO, n);
-    io::write_all(STDOUT_FILENO, what);
+fn print_count(rt: &impl Print, n: u64, what: &[u8]) -> io::Result<()> {
+    print!(rt; "{n}")?;
+    rt.write_all(what)
 }
 
 // Writes what became of the records damaged so.
-pub fn print(kind: &[u8], tally: Tally) {
-    io::write_all(STDOUT_FILENO, b"  ");
-    io::write_all(STDOUT_FILENO, kind);
-    io::write_all(STDOUT_FILENO, b": ");
-    print_count(wrapping_add(tally.refused, tally.accepted), b" tried, ");
-    print_count(tally.refused, b" refused, ");
-    print_count(tally.accepted, b" accepted, ");
-    print_count(tally.broken, b" broke the rule\n");
+pub fn print(rt: &impl Print, kind: &[u8], tally: Tally) -> io::Result<()> {
+    rt.write_all(b"  ")?;
+    rt.write_all(kind)?;
+    rt.write_all(b": ")?;
+    print_count(rt, wrapping_add(tally.refused, tally.accepted), b" tried, ")?;
+    print_count(rt, tally.refused, b" refused, ")?;
+    print_count(rt, tally.accepted, b" accepted, ")?;
+    print_count(rt, tally.broken, b" broke the rule\n")
 }

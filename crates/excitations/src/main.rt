@@ -2,29 +2,38 @@
 // samples wanted; pitch, counter, increment and end; next, used and the 64 values of the queue; nlpf taps of the line; nlpf taps of
 // the filter. It writes the count of samples made and the samples; and then the same state after them, from the pitch to the line.
 // A case that is cut off, or whose nlpf or n is above 64, ends the program.
+#![tactic(auto)]
+
 ghost use Rattle.std.specs.Prelude.{◌≡◌, ◌+◌, ◌*◌, ◌≤◌, length};
 
 mod read;
 
 use excitation::Filled;
-use libc::STDIN_FILENO;
+use std::io;
 
 // Writes the pulse train and the noise after a stretch.
-fn print_state(filled: Filled) {
+fn print_state(rt: &impl Print, filled: Filled) -> io::Result<()> {
     let pulse = filled.pulse;
-    words::print_float(pulse.pitch);
-    words::print_float(pulse.counter);
-    words::print_float(pulse.increment);
-    words::print_float(pulse.end);
+    words::print_float(rt, pulse.pitch)?;
+    words::print_float(rt, pulse.counter)?;
+    words::print_float(rt, pulse.increment)?;
+    words::print_float(rt, pulse.end)?;
     let random = filled.random;
-    words::print_word(random.next);
-    words::print_word(random.used as u64);
+    words::print_word(rt, random.next)?;
+    words::print_word(rt, random.used as u64)?;
     let queue = random.queue;
-    words::print_floats(&queue);
+    words::print_floats(rt, &queue)
 }
 
 // Replays the case at `at`: its taps go to the line and lpf, and `out` is as long as samples are wanted.
-fn replay_case(text: &[u8], at: usize, line: &mut [f64], lpf: &mut [f64], out: &mut [f64])
+fn replay_case(
+    rt: &impl Print,
+    text: &[u8],
+    at: usize,
+    line: &mut [f64],
+    lpf: &mut [f64],
+    out: &mut [f64],
+) -> io::Result<()>
     requires line_in_bounds { at + 17 * (72 + 2 * length line.old) ≤ length text.now }
     requires lpf_len { length lpf.old ≡ length line.old }
 {
@@ -34,14 +43,20 @@ fn replay_case(text: &[u8], at: usize, line: &mut [f64], lpf: &mut [f64], out: &
     words::floats(text, at + 17 * (72 + line.len()), lpf);
     let filled = excitation::stretch(pulse, random, line, lpf, out);
     let made = filled.made;
-    words::print_word(made as u64);
-    words::print_floats(&out[0..made]);
-    print_state(filled);
-    words::print_floats(line);
+    words::print_word(rt, made as u64)?;
+    words::print_floats(rt, &out[0..made])?;
+    print_state(rt, filled)?;
+    words::print_floats(rt, line)
 }
 
 // Replays the case at `at` in arrays of its own.
-fn replay_in_arrays(text: &[u8], at: usize, nlpf: usize, n: usize)
+fn replay_in_arrays(
+    rt: &impl Print,
+    text: &[u8],
+    at: usize,
+    nlpf: usize,
+    n: usize,
+) -> io::Result<()>
     requires nlpf_in_bounds { at + 17 * (72 + 2 * nlpf) ≤ length text.now }
     requires nlpf_bound { (nlpf ≤ 64) × (n ≤ 64) }
 {
@@ -49,37 +64,39 @@ fn replay_in_arrays(text: &[u8], at: usize, nlpf: usize, n: usize)
     let mut lpf = [0.0; 64];
     let mut out = [0.0; 64];
     replay_case(
+        rt,
         text,
         at,
         &mut line[0..nlpf],
         &mut lpf[0..nlpf],
         &mut out[0..n],
-    );
+    )
 }
 
 // Replays the cases, one after the other. Each has 72 words, and two more for each tap.
-fn replay(text: &[u8]) {
+fn replay(rt: &impl Print, text: &[u8]) -> io::Result<()> {
     let mut at = 0;
     while 17 * 72 <= text.len() - at {
         let nlpf = words::word(text, at) as usize;
         let n = words::word(text, at + 17) as usize;
         if nlpf > 64 {
-            return;
+            return Ok(());
         }
         if n > 64 {
-            return;
+            return Ok(());
         }
         let size = 17 * (72 + 2 * nlpf);
         if size > text.len() - at {
-            return;
+            return Ok(());
         }
-        replay_in_arrays(text, at, nlpf, n);
+        replay_in_arrays(rt, text, at, nlpf, n)?;
         at += size;
     }
+    Ok(())
 }
 
-fn main() {
-    let mut text = io::large_buffer();
-    let count = io::read_full(STDIN_FILENO, &mut text);
-    replay(&text[..count]);
+fn main(rt: HostRuntime) -> io::Result<()> {
+    let mut text = [0; 65536];
+    let count = words::read(&mut rt.stdin(), &mut text)?;
+    replay(&rt, &text[..count])
 }

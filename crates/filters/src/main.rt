@@ -2,11 +2,13 @@
 // (at most 512), alpha, volume; nmcp coefficients; nmcp increments; the taps (at stage 0 six d11, six d12, six d22 and d21 row by row, else
 // the stage rows); the samples. It writes the samples, the coefficients and the taps after the stretch. A case that is cut off, or past
 // a limit, ends the program.
-ghost use Rattle.std.specs.Prelude.{◌≡◌, ◌+◌, ◌-◌, ◌*◌, ◌≤◌, length};
+#![tactic(auto)]
 
-use libc::STDIN_FILENO;
+ghost use Rattle.std.specs.Prelude.{◌≡◌, ◌+◌, ◌-◌, ◌*◌, ◌≤◌, IfOk, length};
+
 use mglsa::MelGeneralizedLogSpectrumApproximation;
 use mlsa::MelLogSpectrumApproximation;
+use std::io;
 
 // The filter of stage 0 whose taps stand at `at`, with so many taps in its rows.
 fn filter_at(text: &[u8], at: usize, taps: usize) -> MelLogSpectrumApproximation
@@ -24,26 +26,34 @@ fn filter_at(text: &[u8], at: usize, taps: usize) -> MelLogSpectrumApproximation
 }
 
 // Writes the first of the values.
-fn print_first(values: &[f64], count: usize) {
+fn print_first(rt: &impl Print, values: &[f64], count: usize) -> io::Result<()> {
     if count <= values.len() {
-        words::print_floats(&values[0..count]);
+        words::print_floats(rt, &values[0..count])?;
     }
+    Ok(())
 }
 
 // Writes the taps of a filter of stage 0.
-fn print_filter(f: MelLogSpectrumApproximation, taps: usize) {
+fn print_filter(rt: &impl Print, f: MelLogSpectrumApproximation, taps: usize) -> io::Result<()> {
     let d11 = f.d11;
     let d12 = f.d12;
     let d21 = f.d21;
     let d22 = f.d22;
-    words::print_floats(&d11);
-    words::print_floats(&d12);
-    words::print_floats(&d22);
-    print_first(&d21, taps);
+    words::print_floats(rt, &d11)?;
+    words::print_floats(rt, &d12)?;
+    words::print_floats(rt, &d22)?;
+    print_first(rt, &d21, taps)
 }
 
 // Replays a case of stage 0, with room for its numbers.
-fn replay_zero(text: &[u8], at: usize, c: &mut [f64], increments: &mut [f64], samples: &mut [f64])
+fn replay_zero(
+    rt: &impl Print,
+    text: &[u8],
+    at: usize,
+    c: &mut [f64],
+    increments: &mut [f64],
+    samples: &mut [f64],
+) -> io::Result<()>
     requires in_bounds { (2 ≤ length c.old) × (length c.old ≤ 64) × (length increments.old ≡ length c.old) × (length samples.old ≤ 512) }
     requires samples_in_bounds { at + 17 * (23 + 8 * length c.old + length samples.old) ≤ length text.now }
 {
@@ -56,13 +66,14 @@ fn replay_zero(text: &[u8], at: usize, c: &mut [f64], increments: &mut [f64], sa
     let before = filter_at(text, at + 17 * (5 + 2 * n), taps);
     words::floats(text, at + 17 * (23 + 8 * n), samples);
     let after = filter::zero::stretch(before, samples, c, increments, alpha, volume);
-    words::print_floats(samples);
-    words::print_floats(c);
-    print_filter(after, taps);
+    words::print_floats(rt, samples)?;
+    words::print_floats(rt, c)?;
+    print_filter(rt, after, taps)
 }
 
 // Replays a case of another stage, whose rows have so many taps, with room for its numbers.
 fn replay_nonzero(
+    rt: &impl Print,
     text: &[u8],
     at: usize,
     stages: usize,
@@ -70,7 +81,7 @@ fn replay_nonzero(
     c: &mut [f64],
     increments: &mut [f64],
     samples: &mut [f64],
-)
+) -> io::Result<()>
     requires in_bounds { (2 ≤ length c.old) × (length c.old ≤ 64) × (length increments.old ≡ length c.old) × (length samples.old ≤ 512) }
     requires stages_bound { (stages ≤ 8) × (taps ≤ 512) × (at + 17 * (5 + 2 * length c.old + taps + length samples.old) ≤ length text.now) }
 {
@@ -84,48 +95,63 @@ fn replay_nonzero(
     words::floats(text, at + 17 * (5 + 2 * n + taps), samples);
     let before = MelGeneralizedLogSpectrumApproximation { d };
     let after = filter::nonzero::stretch(before, stages, samples, c, increments, alpha, volume);
-    words::print_floats(samples);
-    words::print_floats(c);
+    words::print_floats(rt, samples)?;
+    words::print_floats(rt, c)?;
     let rows = after.d;
-    print_first(&rows, taps);
+    print_first(rt, &rows, taps)
 }
 
 // Replays the case of stage 0 at `at` in arrays of its own, and answers how many bytes it has: 0 where it is cut off.
-fn zero_case(text: &[u8], at: usize, nmcp: usize, count: usize) -> usize
+fn zero_case(
+    rt: &impl Print,
+    text: &[u8],
+    at: usize,
+    nmcp: usize,
+    count: usize,
+) -> io::Result<usize>
     requires { (at ≤ length text.now) × (2 ≤ nmcp) × (nmcp ≤ 64) × (count ≤ 512) }
-    ensures { result ≤ length text.now - at }
+    ensures { IfOk result (λ n. n ≤ length text.now - at) }
 {
     let size = 17 * (23 + 8 * nmcp + count);
     if size > text.len() - at {
-        return 0;
+        return Ok(0);
     }
     let mut c = [0.0; 64];
     let mut increments = [0.0; 64];
     let mut samples = [0.0; 512];
     replay_zero(
+        rt,
         text,
         at,
         &mut c[0..nmcp],
         &mut increments[0..nmcp],
         &mut samples[0..count],
-    );
-    size
+    )?;
+    Ok(size)
 }
 
 // The same for the other stages.
-fn nonzero_case(text: &[u8], at: usize, stages: usize, nmcp: usize, count: usize) -> usize
+fn nonzero_case(
+    rt: &impl Print,
+    text: &[u8],
+    at: usize,
+    stages: usize,
+    nmcp: usize,
+    count: usize,
+) -> io::Result<usize>
     requires { (at ≤ length text.now) × (stages ≤ 8) × (2 ≤ nmcp) × (nmcp ≤ 64) × (count ≤ 512) }
-    ensures { result ≤ length text.now - at }
+    ensures { IfOk result (λ n. n ≤ length text.now - at) }
 {
     let taps = stages * nmcp;
     let size = 17 * (5 + 2 * nmcp + taps + count);
     if size > text.len() - at {
-        return 0;
+        return Ok(0);
     }
     let mut c = [0.0; 64];
     let mut increments = [0.0; 64];
     let mut samples = [0.0; 512];
     replay_nonzero(
+        rt,
         text,
         at,
         stages,
@@ -133,51 +159,59 @@ fn nonzero_case(text: &[u8], at: usize, stages: usize, nmcp: usize, count: usize
         &mut c[0..nmcp],
         &mut increments[0..nmcp],
         &mut samples[0..count],
-    );
-    size
+    )?;
+    Ok(size)
 }
 
 // Replays the case at `at`, and answers how many bytes it has: 0 where it is cut off or past a limit.
-fn replay_case(text: &[u8], at: usize, stage: u64, nmcp: usize, count: usize) -> usize
+fn replay_case(
+    rt: &impl Print,
+    text: &[u8],
+    at: usize,
+    stage: u64,
+    nmcp: usize,
+    count: usize,
+) -> io::Result<usize>
     requires { at ≤ length text.now }
-    ensures { result ≤ length text.now - at }
+    ensures { IfOk result (λ n. n ≤ length text.now - at) }
 {
     if stage > 8 {
-        return 0;
+        return Ok(0);
     }
     if nmcp < 2 {
-        return 0;
+        return Ok(0);
     }
     if nmcp > 64 {
-        return 0;
+        return Ok(0);
     }
     if count > 512 {
-        return 0;
+        return Ok(0);
     }
     if stage == 0 {
-        zero_case(text, at, nmcp, count)
+        zero_case(rt, text, at, nmcp, count)
     } else {
-        nonzero_case(text, at, stage as usize, nmcp, count)
+        nonzero_case(rt, text, at, stage as usize, nmcp, count)
     }
 }
 
 // Replays the cases, one after the other.
-fn replay(text: &[u8]) {
+fn replay(rt: &impl Print, text: &[u8]) -> io::Result<()> {
     let mut at = 0;
     while 17 * 5 <= text.len() - at {
         let stage = words::word(text, at);
         let nmcp = words::word(text, at + 17) as usize;
         let count = words::word(text, at + 17 * 2) as usize;
-        let size = replay_case(text, at, stage, nmcp, count);
+        let size = replay_case(rt, text, at, stage, nmcp, count)?;
         if size == 0 {
-            return;
+            return Ok(());
         }
         at += size;
     }
+    Ok(())
 }
 
-fn main() {
-    let mut text = io::large_buffer();
-    let count = io::read_full(STDIN_FILENO, &mut text);
-    replay(&text[..count]);
+fn main(rt: HostRuntime) -> io::Result<()> {
+    let mut text = [0; 65536];
+    let count = words::read(&mut rt.stdin(), &mut text)?;
+    replay(&rt, &text[..count])
 }

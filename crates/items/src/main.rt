@@ -1,11 +1,13 @@
 // Runs document 01's numbers to meet and writes a line for each: the item, and what came out. Floats go by their bits, an answer before the
 // array beside it; numbers of the table are in decimal. README.md says what is asked in each, and where items 6 and 8 are.
+#![tactic(auto)]
+
 ghost use Rattle.std.specs.Prelude.{◌≡◌, ◌≤◌, length};
 
 use configuration::Configuration;
 use lanes::five::Numbers;
 use lanes::{Pair, five};
-use libc::STDOUT_FILENO;
+use std::io;
 
 // A log F0 that is fine.
 const LF0: f64 = 5.0;
@@ -29,40 +31,43 @@ fn configuration() -> Configuration {
 }
 
 // Begins a line.
-fn print_item(item: u64) {
-    io::write_all(STDOUT_FILENO, b"item ");
-    io::print_decimal(STDOUT_FILENO, item);
-    io::write_all(STDOUT_FILENO, b":");
+fn print_item(rt: &impl Print, item: u64) -> io::Result<()> {
+    print!(rt; "item {item}:")
 }
 
 // Writes a number on it.
-fn print_number(number: u64) {
-    io::write_all(STDOUT_FILENO, b" ");
-    io::print_decimal(STDOUT_FILENO, number);
+fn print_number(rt: &impl Print, number: u64) -> io::Result<()> {
+    print!(rt; " {number}")
 }
 
 // Writes a float on it.
-fn print_float(x: f64) {
-    io::write_all(STDOUT_FILENO, b" ");
-    io::print_hex(STDOUT_FILENO, number::bits::bits_of(x), 16);
+fn print_float(rt: &impl Print, x: f64) -> io::Result<()> {
+    let bits = number::bits::bits_of(x);
+    print!(rt; " {bits:016x}")
 }
 
 // Writes each of the values on it.
-fn print_floats(values: &[f64]) {
-    let mut i = 0;
-    while i < values.len() {
-        print_float(values[i]);
-        i += 1;
+fn print_floats(rt: &impl Print, values: &[f64]) -> io::Result<()> {
+    for x in values {
+        print_float(rt, *x)?;
     }
+    Ok(())
 }
 
 // Ends it.
-fn end_line() {
-    io::write_all(STDOUT_FILENO, b"\n");
+fn end_line(rt: &impl Print) -> io::Result<()> {
+    println!(rt; "")
 }
 
 // Items 1 and 2: the answer of `fir` and the taps after it, in the row by itself of the five that go at once, with zeros in the others.
-fn filter(item: u64, d: &mut [f64], x: f64, alpha: f64, c: &[f64])
+fn filter(
+    rt: &impl Print,
+    item: u64,
+    d: &mut [f64],
+    x: f64,
+    alpha: f64,
+    c: &[f64],
+) -> io::Result<()>
     requires { (2 ≤ length d.old) × (length c.now ≡ length d.old) × (length d.old ≤ 4) }
 {
     let mut first = [0.0; 8];
@@ -73,103 +78,104 @@ fn filter(item: u64, d: &mut [f64], x: f64, alpha: f64, c: &[f64])
         last: x,
     };
     let y = five::fir(&mut first, &mut second, d, heads, alpha, c);
-    print_item(item);
-    print_float(y.last);
-    print_floats(d);
-    end_line();
+    print_item(rt, item)?;
+    print_float(rt, y.last)?;
+    print_floats(rt, d)?;
+    end_line(rt)
 }
 
 // Items 3 and 4: the coefficients of [1, 2, 4], and the mel-cepstrum that those lead back to.
-fn coefficients() {
+fn coefficients(rt: &impl Print) -> io::Result<()> {
     let mut b = [0.0; 3];
     cepstrum::cepstrum::mc2b(&[1.0, 2.0, 4.0], 0.5, &mut b);
-    print_item(3);
-    print_floats(&b);
-    end_line();
+    print_item(rt, 3)?;
+    print_floats(rt, &b)?;
+    end_line(rt)?;
     let mut c = [0.0; 3];
     cepstrum::coefficients::b2mc(&b, 0.5, &mut c);
-    print_item(4);
-    print_floats(&c);
-    end_line();
+    print_item(rt, 4)?;
+    print_floats(rt, &c)?;
+    end_line(rt)
 }
 
 // Item 5: m2 is 1 where the first two entries are looked at.
-fn warped() {
+fn warped(rt: &impl Print) -> io::Result<()> {
     let g = cepstrum::cepstrum::freqt(&[1.0, 2.0], 0.5);
-    print_item(5);
-    print_floats(&g[0..2]);
-    end_line();
+    print_item(rt, 5)?;
+    print_floats(rt, &g[0..2])?;
+    end_line(rt)
 }
 
 // Item 7.
-fn repaired() {
+fn repaired(rt: &impl Print) -> io::Result<()> {
     let mut lsp = [5.0, 0.0];
     stability::check_lsp_stability(&mut lsp);
-    print_item(7);
-    print_floats(&lsp);
-    end_line();
+    print_item(rt, 7)?;
+    print_floats(rt, &lsp)?;
+    end_line(rt)
 }
 
 // Item 9: open with that nmcp.
-fn open_with(nmcp: usize) {
+fn open_with(rt: &impl Print, nmcp: usize) -> io::Result<()> {
     let mut c = configuration();
     c.nmcp = nmcp;
     let opened = voice::open(c);
-    print_number(opened.number);
+    print_number(rt, opened.number)
 }
 
 // Items 10 and 12: a frame for a fresh voice.
-fn give_fresh(c: Configuration, spectrum: &[f64]) {
+fn give_fresh(rt: &impl Print, c: Configuration, spectrum: &[f64]) -> io::Result<()> {
     let opened = voice::open(c);
     let fresh = opened.voice;
     let answered = giving::give(fresh, LF0, spectrum, &[]);
-    print_number(answered.number);
+    print_number(rt, answered.number)
 }
 
 // Item 11: draw on a fresh voice.
-fn draw_fresh() {
+fn draw_fresh(rt: &impl Print) -> io::Result<()> {
     let opened = voice::open(configuration());
     let fresh = opened.voice;
     let mut out = [0.0; 80];
     let drawn = drawing::draw(fresh, &mut out, 0);
-    print_number(drawn.number);
+    print_number(rt, drawn.number)
 }
 
 // Item 12: entries 1, 2 and 3 are equal, at that stage.
-fn give_equal(stage: u64) {
+fn give_equal(rt: &impl Print, stage: u64) -> io::Result<()> {
     let mut c = configuration();
     c.nmcp = 4;
     c.stage = stage;
     c.beta = 0.5;
-    give_fresh(c, &[1.0, 0.5, 0.5, 0.5]);
+    give_fresh(rt, c, &[1.0, 0.5, 0.5, 0.5])
 }
 
-fn main() {
+fn main(rt: HostRuntime) -> io::Result<()> {
     filter(
+        &rt,
         1,
         &mut [0.0, 1.0, 2.0, 3.0],
         5.0,
         0.0,
         &[0.0, 0.0, 10.0, 100.0],
-    );
-    filter(2, &mut [0.0, 4.0], 2.0, 0.5, &[0.0, 0.0]);
-    coefficients();
-    warped();
-    repaired();
-    print_item(9);
-    open_with(1);
-    open_with(2);
-    end_line();
-    print_item(10);
+    )?;
+    filter(&rt, 2, &mut [0.0, 4.0], 2.0, 0.5, &[0.0, 0.0])?;
+    coefficients(&rt)?;
+    warped(&rt)?;
+    repaired(&rt)?;
+    print_item(&rt, 9)?;
+    open_with(&rt, 1)?;
+    open_with(&rt, 2)?;
+    end_line(&rt)?;
+    print_item(&rt, 10)?;
     let spectrum = [0.0; 26];
-    give_fresh(configuration(), &spectrum[0..24]);
-    give_fresh(configuration(), &spectrum);
-    end_line();
-    print_item(11);
-    draw_fresh();
-    end_line();
-    print_item(12);
-    give_equal(1);
-    give_equal(8);
-    end_line();
+    give_fresh(&rt, configuration(), &spectrum[0..24])?;
+    give_fresh(&rt, configuration(), &spectrum)?;
+    end_line(&rt)?;
+    print_item(&rt, 11)?;
+    draw_fresh(&rt)?;
+    end_line(&rt)?;
+    print_item(&rt, 12)?;
+    give_equal(&rt, 1)?;
+    give_equal(&rt, 8)?;
+    end_line(&rt)
 }

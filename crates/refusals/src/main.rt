@@ -1,10 +1,12 @@
 // Writes what the calls answer where one refusal applies, and where two apply: a line each, of the call, the numbers that apply (0: none)
 // and the number answered. Of two numbers the first is the one that comes first in document 01's table. Lines with a name in place of the
 // numbers show a limit, or another way to a number. README.md says what each number stands for here.
+#![tactic(auto)]
+
 ghost use Rattle.std.specs.Prelude.{◌≡◌, ◌+◌, ◌≤◌, ◌<◌, length};
 
 use configuration::Configuration;
-use libc::STDOUT_FILENO;
+use std::io;
 use voice::Voice;
 use voice::answers::{
     ARGUMENT_OUTSIDE, BUFFER_SHORT, DONE, ENTRY_BEYOND, METER_FULL, NOT_FINITE, NOTHING_LEFT,
@@ -47,87 +49,83 @@ fn configuration() -> Configuration {
 }
 
 // Writes the end of a line: the number answered.
-fn print_number(number: u64) {
-    io::write_all(STDOUT_FILENO, b": ");
-    io::print_decimal(STDOUT_FILENO, number);
-    io::write_all(STDOUT_FILENO, b"\n");
+fn print_number(rt: &impl Print, number: u64) -> io::Result<()> {
+    println!(rt; ": {number}")
 }
 
 // Writes a line for a situation that has a name.
-fn print_named(call: &[u8], name: &[u8], number: u64) {
-    io::write_all(STDOUT_FILENO, call);
-    io::write_all(STDOUT_FILENO, b" ");
-    io::write_all(STDOUT_FILENO, name);
-    print_number(number);
+fn print_named(rt: &impl Print, call: &[u8], name: &[u8], number: u64) -> io::Result<()> {
+    rt.write_all(call)?;
+    rt.write_all(b" ")?;
+    rt.write_all(name)?;
+    print_number(rt, number)
 }
 
 // Writes a line for a situation in which a and b apply.
-fn print_pair(call: &[u8], a: u64, b: u64, number: u64) {
-    io::write_all(STDOUT_FILENO, call);
-    io::write_all(STDOUT_FILENO, b" ");
-    io::print_decimal(STDOUT_FILENO, a);
+fn print_pair(rt: &impl Print, call: &[u8], a: u64, b: u64, number: u64) -> io::Result<()> {
+    rt.write_all(call)?;
+    print!(rt; " {a}")?;
     if a != b {
-        io::write_all(STDOUT_FILENO, b" and ");
-        io::print_decimal(STDOUT_FILENO, b);
+        print!(rt; " and {b}")?;
     }
-    print_number(number);
+    print_number(rt, number)
 }
 
 // Opens a voice.
-fn open(name: &[u8], configuration: Configuration) {
+fn open(rt: &impl Print, name: &[u8], configuration: Configuration) -> io::Result<()> {
     let opened = voice::open(configuration);
-    print_named(b"open", name, opened.number);
+    print_named(rt, b"open", name, opened.number)
 }
 
 // Opens voices with a whole number past its limit, and one at the limit.
-fn open_with_numbers() {
+fn open_with_numbers(rt: &impl Print) -> io::Result<()> {
     let mut c = configuration();
     c.nmcp = 2;
-    open(b"nmcp 2", c);
+    open(rt, b"nmcp 2", c)?;
     c.nmcp = 1;
-    open(b"nmcp 1", c);
+    open(rt, b"nmcp 1", c)?;
     c.nmcp = 65;
-    open(b"nmcp 65", c);
+    open(rt, b"nmcp 65", c)?;
     c = configuration();
     c.nlpf = 65;
-    open(b"nlpf 65", c);
+    open(rt, b"nlpf 65", c)?;
     c = configuration();
     c.stage = 9;
-    open(b"stage 9", c);
+    open(rt, b"stage 9", c)?;
     c = configuration();
     c.rate = 0;
-    open(b"rate 0", c);
+    open(rt, b"rate 0", c)?;
     c.rate = 192001;
-    open(b"rate 192001", c);
+    open(rt, b"rate 192001", c)?;
     c = configuration();
     c.fperiod = 0;
-    open(b"fperiod 0", c);
+    open(rt, b"fperiod 0", c)?;
     c.fperiod = 4801;
-    open(b"fperiod 4801", c);
+    open(rt, b"fperiod 4801", c)
 }
 
 // Opens voices with a float past its limit.
-fn open_with_floats() {
+fn open_with_floats(rt: &impl Print) -> io::Result<()> {
     let mut c = configuration();
     c.alpha = 1.0;
-    open(b"alpha 1", c);
+    open(rt, b"alpha 1", c)?;
     c = configuration();
     c.beta = 1.5;
-    open(b"beta 1.5", c);
+    open(rt, b"beta 1.5", c)?;
     c = configuration();
     c.volume = 1.0 / 0.0;
-    open(b"volume infinite", c);
+    open(rt, b"volume infinite", c)?;
     c = configuration();
     c.low = -21.0;
-    open(b"low -21", c);
+    open(rt, b"low -21", c)?;
     c.low = 10.0;
-    open(b"low above high", c);
+    open(rt, b"low above high", c)?;
     c = configuration();
     c.high = 21.0;
-    open(b"high 21", c);
+    open(rt, b"high 21", c)?;
     c = configuration();
     c.nodata = 0.0 / 0.0;
-    open(b"no-data not a number", c);
+    open(rt, b"no-data not a number", c)
 }
 
 // Whether a number is one of the two that are to apply.
@@ -204,7 +202,7 @@ fn spectrum_of(a: u64, b: u64) -> [f64; 5]
 }
 
 // Gives a frame where a and b apply.
-fn give(a: u64, b: u64) {
+fn give(rt: &impl Print, a: u64, b: u64) -> io::Result<()> {
     let spectrum = spectrum_of(a, b);
     let entries = size(4, applies(SPECTRUM_LENGTH, a, b));
     let lpf = [0.5, 0.25, 0.125];
@@ -215,11 +213,11 @@ fn give(a: u64, b: u64) {
         &spectrum[0..entries],
         &lpf[0..taps],
     );
-    print_pair(b"give", a, b, answered.number);
+    print_pair(rt, b"give", a, b, answered.number)
 }
 
 // Gives a whole frame where a and b apply.
-fn whole_frame(a: u64, b: u64) {
+fn whole_frame(rt: &impl Print, a: u64, b: u64) -> io::Result<()> {
     let spectrum = spectrum_of(a, b);
     let entries = size(4, applies(SPECTRUM_LENGTH, a, b));
     let lpf = [0.5, 0.25, 0.125];
@@ -234,11 +232,11 @@ fn whole_frame(a: u64, b: u64) {
         &mut out[0..room],
         0,
     );
-    print_pair(b"whole frame", a, b, drawn.number);
+    print_pair(rt, b"whole frame", a, b, drawn.number)
 }
 
 // Draws where a and b apply.
-fn draw(a: u64, b: u64) {
+fn draw(rt: &impl Print, a: u64, b: u64) -> io::Result<()> {
     let voice = voice_where(
         applies(VOICE_IDLE, a, b),
         !applies(NOTHING_LEFT, a, b),
@@ -246,85 +244,81 @@ fn draw(a: u64, b: u64) {
     );
     let mut out = [0.0; 5];
     let drawn = drawing::draw(voice, &mut out, 0);
-    print_pair(b"draw", a, b, drawn.number);
+    print_pair(rt, b"draw", a, b, drawn.number)
 }
 
 // Makes the call, whole frame or give, where a and b apply.
-fn call(whole: bool, a: u64, b: u64) {
+fn call(rt: &impl Print, whole: bool, a: u64, b: u64) -> io::Result<()> {
     if whole {
-        whole_frame(a, b);
+        whole_frame(rt, a, b)
     } else {
-        give(a, b);
+        give(rt, a, b)
     }
 }
 
 // Makes the call with the number at i, and with it and each after it.
-fn call_from(whole: bool, order: &[u64], i: usize)
+fn call_from(rt: &impl Print, whole: bool, order: &[u64], i: usize) -> io::Result<()>
     requires { i < length order.now }
 {
-    let mut j = i;
-    while j < order.len() {
-        call(whole, order[i], order[j]);
-        j += 1;
+    for j in i..order.len() {
+        call(rt, whole, order[i], order[j])?;
     }
+    Ok(())
 }
 
 // Makes the call where none of the numbers applies, where each does, and where each two do.
-fn call_all(whole: bool, order: &[u64]) {
-    call(whole, DONE, DONE);
-    let mut i = 0;
-    while i < order.len() {
-        call_from(whole, order, i);
-        i += 1;
+fn call_all(rt: &impl Print, whole: bool, order: &[u64]) -> io::Result<()> {
+    call(rt, whole, DONE, DONE)?;
+    for i in 0..order.len() {
+        call_from(rt, whole, order, i)?;
     }
+    Ok(())
 }
 
 // Gives a frame that has a name to a voice of that stage and beta.
-fn give_named(name: &[u8], stage: u64, beta: f64, lf0: f64, spectrum: &[f64], lpf: &[f64]) {
+fn give_named(
+    rt: &impl Print,
+    name: &[u8],
+    stage: u64,
+    beta: f64,
+    lf0: f64,
+    spectrum: &[f64],
+    lpf: &[f64],
+) -> io::Result<()> {
     let mut c = configuration();
     c.stage = stage;
     c.beta = beta;
     let mut voice = voice_where(false, false, false);
     voice.configuration = c;
     let answered = giving::give(voice, lf0, spectrum, lpf);
-    print_named(b"give", name, answered.number);
+    print_named(rt, b"give", name, answered.number)
 }
 
 // Other ways to 6 and 9, and where 7 begins and does not apply.
-fn give_others() {
+fn give_others(rt: &impl Print) -> io::Result<()> {
     let fine = [GAIN, FIRST_PAIR, 1.5, 2.0];
     let lpf = [0.5, 0.25];
     let top = 1.0 / 0.0;
-    give_named(b"infinite entry", 1, 0.0, LF0, &[GAIN, top, 1.5, 2.0], &lpf);
-    give_named(b"infinite tap", 1, 0.0, LF0, &fine, &[0.5, top]);
-    give_named(b"lf0 not a number", 1, 0.0, top - top, &fine, &lpf);
-    give_named(
-        b"largest entry",
-        1,
-        0.0,
-        LF0,
-        &[GAIN, LARGEST, 1.5, 2.0],
-        &lpf,
-    );
-    give_named(
-        b"entry beyond at stage 0",
-        0,
-        0.0,
-        LF0,
-        &[GAIN, BEYOND, 1.5, 2.0],
-        &lpf,
-    );
-    give_named(b"equal pairs", 1, 0.5, LF0, &[GAIN, 1.5, 1.5, 1.5], &lpf);
+    let infinite = [GAIN, top, 1.5, 2.0];
+    let largest = [GAIN, LARGEST, 1.5, 2.0];
+    let beyond = [GAIN, BEYOND, 1.5, 2.0];
+    let equal = [GAIN, 1.5, 1.5, 1.5];
+    give_named(rt, b"infinite entry", 1, 0.0, LF0, &infinite, &lpf)?;
+    give_named(rt, b"infinite tap", 1, 0.0, LF0, &fine, &[0.5, top])?;
+    give_named(rt, b"lf0 not a number", 1, 0.0, top - top, &fine, &lpf)?;
+    give_named(rt, b"largest entry", 1, 0.0, LF0, &largest, &lpf)?;
+    give_named(rt, b"entry beyond at stage 0", 0, 0.0, LF0, &beyond, &lpf)?;
+    give_named(rt, b"equal pairs", 1, 0.5, LF0, &equal, &lpf)
 }
 
-fn main() {
-    open_with_numbers();
-    open_with_floats();
-    call_all(false, &[2, 3, 4, 5, 6, 7, 8, 9]);
-    give_others();
-    call_all(true, &[2, 14, 3, 4, 5, 6, 7, 8, 9]);
-    draw(DONE, DONE);
-    draw(VOICE_IDLE, VOICE_IDLE);
-    draw(NOTHING_LEFT, NOTHING_LEFT);
-    draw(VOICE_IDLE, NOTHING_LEFT);
+fn main(rt: HostRuntime) -> io::Result<()> {
+    open_with_numbers(&rt)?;
+    open_with_floats(&rt)?;
+    call_all(&rt, false, &[2, 3, 4, 5, 6, 7, 8, 9])?;
+    give_others(&rt)?;
+    call_all(&rt, true, &[2, 14, 3, 4, 5, 6, 7, 8, 9])?;
+    draw(&rt, DONE, DONE)?;
+    draw(&rt, VOICE_IDLE, VOICE_IDLE)?;
+    draw(&rt, NOTHING_LEFT, NOTHING_LEFT)?;
+    draw(&rt, VOICE_IDLE, NOTHING_LEFT)
 }

@@ -3,6 +3,7 @@ ghost use Rattle.std.specs.Prelude.{◌≤◌};
 
 use crate::run::{Run, hear, restarted};
 use crate::{calls, others, say};
+use std::io;
 use voice::Voice;
 
 // More draws than the longest frame takes, of 4,800 samples: seven make 348.
@@ -64,39 +65,51 @@ fn draw_next(before: Run, voice: Voice, counts: &mut [u64]) -> Run {
 }
 
 // Restarts in another voice, where it is time for that.
-fn restart(before: Run, counts: &mut [u64]) -> Run {
+fn restart(rt: &impl Print, before: Run, counts: &mut [u64]) -> io::Result<Run> {
     let voice = before.voice;
     if before.draws % RESTART != 0 {
-        return before;
+        return Ok(before);
     }
-    say::text(b"cut: restart at sample ");
-    say::number(voice.meter);
-    say::text(b" into ");
+    say::text(rt, b"cut: restart at sample ")?;
+    say::number(rt, voice.meter)?;
+    say::text(rt, b" into ")?;
     let other = others::other(before.restarts);
-    others::say_kind(before.restarts, other.left);
-    restarted(before, calls::restart(voice, other, counts))
+    others::say_kind(rt, before.restarts, other.left)?;
+    Ok(restarted(before, calls::restart(voice, other, counts)))
 }
 
 // A refused call, a draw, and a restart where it is time for one.
-fn piece(before: Run, lf0: f64, spectrum: &[f64], lpf: &[f64], counts: &mut [u64]) -> Run {
+fn piece(
+    rt: &impl Print,
+    before: Run,
+    lf0: f64,
+    spectrum: &[f64],
+    lpf: &[f64],
+    counts: &mut [u64],
+) -> io::Result<Run> {
     let voice = refused(before.voice, before.draws, lf0, spectrum, lpf, counts);
     let drawn = draw_next(before, voice, counts);
-    restart(drawn, counts)
+    restart(rt, drawn, counts)
 }
 
 // Draws what is left of the frame.
-fn draw_all(given: Run, lf0: f64, spectrum: &[f64], lpf: &[f64], counts: &mut [u64]) -> Run {
+fn draw_all(
+    rt: &impl Print,
+    given: Run,
+    lf0: f64,
+    spectrum: &[f64],
+    lpf: &[f64],
+    counts: &mut [u64],
+) -> io::Result<Run> {
     let mut run = given;
-    let mut turn = 0;
-    while turn < MOST_DRAWS {
+    for _ in 0..MOST_DRAWS {
         let voice = run.voice;
         if voice.left == 0 {
-            return run;
+            return Ok(run);
         }
-        run = piece(run, lf0, spectrum, lpf, counts);
-        turn += 1;
+        run = piece(rt, run, lf0, spectrum, lpf, counts)?;
     }
-    run
+    Ok(run)
 }
 
 // The rendering with another voice, as it is after a call that makes no sample.
@@ -107,10 +120,17 @@ fn with_voice(before: Run, voice: Voice) -> Run {
 }
 
 // Gives a frame, draws it to its end, and asks for one sample more.
-pub fn cut_frame(before: Run, lf0: f64, spectrum: &[f64], lpf: &[f64], counts: &mut [u64]) -> Run {
+pub fn cut_frame(
+    rt: &impl Print,
+    before: Run,
+    lf0: f64,
+    spectrum: &[f64],
+    lpf: &[f64],
+    counts: &mut [u64],
+) -> io::Result<Run> {
     let voice = calls::give(before.voice, lf0, spectrum, lpf, counts);
     let given = with_voice(before, voice);
-    let drawn = draw_all(given, lf0, spectrum, lpf, counts);
+    let drawn = draw_all(rt, given, lf0, spectrum, lpf, counts)?;
     let after = calls::draw_one(drawn.voice, counts);
-    with_voice(drawn, after)
+    Ok(with_voice(drawn, after))
 }

@@ -2,6 +2,8 @@
 // writes what each came to, where the restarts were, how often each number was a refusal's, and whether both are the same. A job is a
 // list of words, one a line, floats by their bits: the twelve slots of the configuration; the count of frames; of each frame lf0, the nmcp
 // entries of the spectrum and the nlpf taps. A job that is past a limit, or not as long as it says, ends the program with a line that says so.
+#![tactic(auto)]
+
 ghost use Rattle.std.specs.Prelude.{◌≤◌, length};
 
 mod calls;
@@ -12,36 +14,38 @@ mod run;
 mod say;
 
 use job::FRAMES_AT;
-use libc::STDIN_FILENO;
 use run::Run;
+use std::io;
 use voice::Voice;
 use voice::answers::DONE;
 
 // Renders a frame, cut or uncut.
 fn render_frame(
+    rt: &impl Print,
     before: Run,
     cut: bool,
     lf0: f64,
     spectrum: &[f64],
     lpf: &[f64],
     counts: &mut [u64],
-) -> Run {
+) -> io::Result<Run> {
     if cut {
-        cut::cut_frame(before, lf0, spectrum, lpf, counts)
+        cut::cut_frame(rt, before, lf0, spectrum, lpf, counts)
     } else {
-        calls::whole_frame(before, lf0, spectrum, lpf, counts)
+        Ok(calls::whole_frame(before, lf0, spectrum, lpf, counts))
     }
 }
 
 // Renders the frames, one after the other, with room for the numbers of one.
 fn render_frames(
+    rt: &impl Print,
     frames: &[u8],
     opened: Run,
     cut: bool,
     spectrum: &mut [f64],
     lpf: &mut [f64],
     counts: &mut [u64],
-) -> Run
+) -> io::Result<Run>
     requires { (length spectrum.old ≤ 64) × (length lpf.old ≤ 64) }
 {
     let size = job::size(spectrum.len(), lpf.len());
@@ -50,80 +54,100 @@ fn render_frames(
     while size <= frames.len() - at {
         let next = at + size;
         let lf0 = job::read_frame(frames, at, spectrum, lpf);
-        run = render_frame(run, cut, lf0, spectrum, lpf, counts);
+        run = render_frame(rt, run, cut, lf0, spectrum, lpf, counts)?;
         at = next;
     }
-    run
+    Ok(run)
 }
 
 // Renders the frames by a voice that was opened for them, and writes what it came to.
-fn render(name: &[u8], frames: &[u8], opened: Voice, cut: bool, nmcp: usize, nlpf: usize) -> Run
+fn render(
+    rt: &impl Print,
+    name: &[u8],
+    frames: &[u8],
+    opened: Voice,
+    cut: bool,
+    nmcp: usize,
+    nlpf: usize,
+) -> io::Result<Run>
     requires { (nmcp ≤ 64) × (nlpf ≤ 64) }
 {
     let mut spectrum = [0.0; 64];
     let mut lpf = [0.0; 64];
     let mut counts = [0; 15];
     let run = render_frames(
+        rt,
         frames,
         Run::new(opened),
         cut,
         &mut spectrum[0..nmcp],
         &mut lpf[0..nlpf],
         &mut counts,
-    );
-    say::run(name, run);
-    say::counts(name, &counts);
-    run
+    )?;
+    say::run(rt, name, run)?;
+    say::counts(rt, name, &counts)?;
+    Ok(run)
 }
 
 // Renders the frames both ways, and says whether that is the same.
-fn compare(frames: &[u8], opened: Voice, nmcp: usize, nlpf: usize)
+fn compare(
+    rt: &impl Print,
+    frames: &[u8],
+    opened: Voice,
+    nmcp: usize,
+    nlpf: usize,
+) -> io::Result<()>
     requires { (nmcp ≤ 64) × (nlpf ≤ 64) }
 {
-    let uncut = render(b"uncut", frames, opened, false, nmcp, nlpf);
-    let cut = render(b"cut", frames, opened, true, nmcp, nlpf);
+    let uncut = render(rt, b"uncut", frames, opened, false, nmcp, nlpf)?;
+    let cut = render(rt, b"cut", frames, opened, true, nmcp, nlpf)?;
     if run::same(uncut, cut) {
-        say::line(b"both are the same");
+        say::line(rt, b"both are the same")
     } else {
-        say::line(b"they differ");
+        say::line(rt, b"they differ")
     }
 }
 
 // Renders the frames both ways where there are as many as the job says. The tests of nmcp and nlpf are for the arrays: open has accepted them.
-fn compare_whole(frames: &[u8], count: usize, opened: Voice, nmcp: usize, nlpf: usize) {
+fn compare_whole(
+    rt: &impl Print,
+    frames: &[u8],
+    count: usize,
+    opened: Voice,
+    nmcp: usize,
+    nlpf: usize,
+) -> io::Result<()> {
     if nmcp > 64 {
-        return;
+        return Ok(());
     }
     if nlpf > 64 {
-        return;
+        return Ok(());
     }
     if job::is_whole(frames.len(), count, job::size(nmcp, nlpf)) {
-        compare(frames, opened, nmcp, nlpf);
+        compare(rt, frames, opened, nmcp, nlpf)
     } else {
-        say::line(b"the job is not as long as it says");
+        say::line(rt, b"the job is not as long as it says")
     }
 }
 
 // Renders a job.
-fn demonstrate(text: &[u8]) {
+fn demonstrate(rt: &impl Print, text: &[u8]) -> io::Result<()> {
     if text.len() < FRAMES_AT {
-        say::line(b"the job is cut off");
-        return;
+        return say::line(rt, b"the job is cut off");
     }
     let configuration = job::configuration(text);
     let nmcp = configuration.nmcp;
     let nlpf = configuration.nlpf;
     let opened = voice::open(configuration);
     if opened.number != DONE {
-        say::line(b"the job is past a limit");
-        return;
+        return say::line(rt, b"the job is past a limit");
     }
     let count = job::count(text);
-    compare_whole(&text[FRAMES_AT..], count, opened.voice, nmcp, nlpf);
+    compare_whole(rt, &text[FRAMES_AT..], count, opened.voice, nmcp, nlpf)
 }
 
-fn main() {
-    let mut text = io::large_buffer();
-    let count = io::read_full(STDIN_FILENO, &mut text);
-    demonstrate(&text[..count]);
+fn main(rt: HostRuntime) -> io::Result<()> {
+    let mut text = [0; 65536];
+    let count = words::read(&mut rt.stdin(), &mut text)?;
+    demonstrate(&rt, &text[..count])
 }

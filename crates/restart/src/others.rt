@@ -1,6 +1,7 @@
 // The voices that a restart goes into, each with something of its own that must not remain.
 use crate::say;
 use configuration::Configuration;
+use std::io;
 use voice::Voice;
 
 // The kinds. A busy one is what none of these is.
@@ -62,17 +63,15 @@ pub fn other(restarts: u64) -> Voice {
 }
 
 // Writes what kind it is.
-pub fn say_kind(restarts: u64, left: usize) {
+pub fn say_kind(rt: &impl Print, restarts: u64, left: usize) -> io::Result<()> {
     let kind = restarts % 3;
     if kind == FRESH {
-        say::line(b"a fresh voice of another configuration");
-        return;
+        return say::line(rt, b"a fresh voice of another configuration");
     }
     if kind == IDLE {
-        say::line(b"the idle voice");
-        return;
+        return say::line(rt, b"the idle voice");
     }
-    say::text(b"a busy voice with ");
-    say::number(left as u64);
-    say::line(b" samples left");
+    say::text(rt, b"a busy voice with ")?;
+    say::number(rt, left as u64)?;
+    say::line(rt, b" samples left")
 }

@@ -32,13 +32,11 @@ const FACTOR: u64 = 6364136223846793005;
 // The checksum after so many of the samples.
 fn summed(before: u64, samples: &[f64], made: usize) -> u64 {
     let mut sum = before;
-    let mut i = 0;
-    while i < samples.len() {
+    for i in 0..samples.len() {
         if i == made {
             return sum;
         }
         sum = wrapping_add(wrapping_mul(sum, FACTOR), bits_of(samples[i]));
-        i += 1;
     }
     sum
 }

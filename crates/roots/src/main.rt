@@ -1,23 +1,26 @@
 // Reads lines of sixteen hexadecimal digits, each the bit pattern of a float, and writes the patterns
 // of their square roots, a line each: at most 3,855 lines, and nothing for what is no whole line.
-use libc::STDIN_FILENO;
+#![tactic(auto)]
+
+use std::io;
 
 // Writes the root of the pattern b.
-fn write_root(b: u64) {
-    words::print_float(root::sqrt(number::bits::float_of(b)));
+fn write_root(rt: &impl Print, b: u64) -> io::Result<()> {
+    words::print_float(rt, root::sqrt(number::bits::float_of(b)))
 }
 
 // Writes the root of the pattern on each line.
-fn write_roots(text: &[u8]) {
+fn write_roots(rt: &impl Print, text: &[u8]) -> io::Result<()> {
     let mut at = 0;
     while 17 <= text.len() - at {
-        write_root(words::word(text, at));
+        write_root(rt, words::word(text, at))?;
         at += 17;
     }
+    Ok(())
 }
 
-fn main() {
-    let mut text = io::large_buffer();
-    let count = io::read_full(STDIN_FILENO, &mut text);
-    write_roots(&text[..count]);
+fn main(rt: HostRuntime) -> io::Result<()> {
+    let mut text = [0; 65536];
+    let count = words::read(&mut rt.stdin(), &mut text)?;
+    write_roots(&rt, &text[..count])
 }

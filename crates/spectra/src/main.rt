@@ -2,12 +2,14 @@
 // alpha, beta; nmcp entries of the spectrum; nmcp coefficients that the voice has. It writes the number (0, or 9 where preparing is
 // outside), the start coefficients after it and the targets after it, which are zeros before. A case that is cut off, or whose nmcp or
 // stage is past its limit, ends the program.
+#![tactic(auto)]
+
 ghost use Rattle.std.specs.Prelude.{◌≡◌, ◌+◌, ◌*◌, ◌≤◌, length};
 
 use elementary::answer::Prepared;
-use libc::STDIN_FILENO;
 use prepare::mel::prepare_mcp;
 use prepare::pairs::prepare_lsp;
+use std::io;
 
 // Prepares a spectrum at a stage from 0 to 8.
 fn prepare(
@@ -43,13 +45,14 @@ fn number(prepared: Prepared) -> u64 {
 
 // Replays the case at `at`, with room for its spectrum and for what comes of it.
 fn replay_case(
+    rt: &impl Print,
     text: &[u8],
     at: usize,
     stage: u64,
     spectrum: &mut [f64],
     start: &mut [f64],
     targets: &mut [f64],
-)
+) -> io::Result<()>
     requires spectrum_in_bounds { (at + 17 * (6 + 2 * length spectrum.old) ≤ length text.now) × (stage ≤ 8) }
     requires in_bounds { (2 ≤ length spectrum.old) × (length spectrum.old ≤ 64) }
     requires start_len { (length start.old ≡ length spectrum.old) × (length targets.old ≡ length spectrum.old) }
@@ -57,54 +60,62 @@ fn replay_case(
     words::floats(text, at + 17 * 6, spectrum);
     words::floats(text, at + 17 * (6 + spectrum.len()), start);
     let prepared = prepare(text, at, stage, spectrum, start, targets);
-    words::print_word(number(prepared));
-    words::print_floats(start);
-    words::print_floats(targets);
+    words::print_word(rt, number(prepared))?;
+    words::print_floats(rt, start)?;
+    words::print_floats(rt, targets)
 }
 
 // Replays the case at `at` in arrays of its own.
-fn replay_in_arrays(text: &[u8], at: usize, stage: u64, nmcp: usize)
+fn replay_in_arrays(
+    rt: &impl Print,
+    text: &[u8],
+    at: usize,
+    stage: u64,
+    nmcp: usize,
+) -> io::Result<()>
     requires { (at + 17 * (6 + 2 * nmcp) ≤ length text.now) × (stage ≤ 8) × (2 ≤ nmcp) × (nmcp ≤ 64) }
 {
     let mut spectrum = [0.0; 64];
     let mut start = [0.0; 64];
     let mut targets = [0.0; 64];
     replay_case(
+        rt,
         text,
         at,
         stage,
         &mut spectrum[0..nmcp],
         &mut start[0..nmcp],
         &mut targets[0..nmcp],
-    );
+    )
 }
 
 // Replays the cases, one after the other. Each has six words, and two more for each entry.
-fn replay(text: &[u8]) {
+fn replay(rt: &impl Print, text: &[u8]) -> io::Result<()> {
     let mut at = 0;
     while 17 * 6 <= text.len() - at {
         let stage = words::word(text, at);
         let nmcp = words::word(text, at + 17 * 2) as usize;
         if stage > 8 {
-            return;
+            return Ok(());
         }
         if nmcp < 2 {
-            return;
+            return Ok(());
         }
         if nmcp > 64 {
-            return;
+            return Ok(());
         }
         let size = 17 * (6 + 2 * nmcp);
         if size > text.len() - at {
-            return;
+            return Ok(());
         }
-        replay_in_arrays(text, at, stage, nmcp);
+        replay_in_arrays(rt, text, at, stage, nmcp)?;
         at += size;
     }
+    Ok(())
 }
 
-fn main() {
-    let mut text = io::large_buffer();
-    let count = io::read_full(STDIN_FILENO, &mut text);
-    replay(&text[..count]);
+fn main(rt: HostRuntime) -> io::Result<()> {
+    let mut text = [0; 65536];
+    let count = words::read(&mut rt.stdin(), &mut text)?;
+    replay(&rt, &text[..count])
 }

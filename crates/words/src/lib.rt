@@ -1,7 +1,10 @@
 // Text of one word a line: sixteen hexadecimal digits, the bits of a number, and a line end.
-ghost use Rattle.std.specs.Prelude.{◌+◌, ◌*◌, ◌≤◌, ◌<◌, length};
+#![tactic(auto)]
 
-use libc::STDOUT_FILENO;
+ghost use Rattle.std.specs.Prelude.{◌+◌, ◌*◌, ◌≤◌, ◌<◌, IfOk, length};
+
+use std::io;
+use std::io::Read;
 
 // The value of a digit. Any other character counts as 0.
 fn digit(c: u8) -> u64
@@ -19,10 +22,8 @@ pub fn word(text: &[u8], at: usize) -> u64
     requires { at + 16 ≤ length text.now }
 {
     let mut n: u64 = 0;
-    let mut i = 0;
-    while i < 16 {
+    for i in 0..16 {
         n = (n << 4) + digit(text[at + i]);
-        i += 1;
     }
     n
 }
@@ -38,29 +39,40 @@ pub fn float(text: &[u8], at: usize) -> f64
 pub fn floats(text: &[u8], at: usize, values: &mut [f64])
     requires { at + 17 * length values.old ≤ length text.now }
 {
-    let mut i = 0;
-    while i < values.len() {
+    for i in 0..values.len() {
         values[i] = float(text, at + 17 * i);
-        i += 1;
     }
+}
+
+// Reads into the text until it is full or the input ends, and answers how many bytes there are.
+pub fn read(input: &mut impl Read, text: &mut [u8]) -> io::Result<usize>
+    ensures { IfOk result (λ n. n ≤ length text.new) }
+{
+    let mut count = 0;
+    while count < text.len() {
+        let more = input.read(&mut text[count..])?;
+        if more == 0 {
+            return Ok(count);
+        }
+        count += more;
+    }
+    Ok(count)
 }
 
 // Writes b, a line.
-pub fn print_word(b: u64) {
-    io::print_hex(STDOUT_FILENO, b, 16);
-    io::write_all(STDOUT_FILENO, b"\n");
+pub fn print_word(rt: &impl Print, b: u64) -> io::Result<()> {
+    println!(rt; "{b:016x}")
 }
 
 // Writes the bits of x, a line; those of a NaN are always the same.
-pub fn print_float(x: f64) {
-    print_word(number::bits::bits_of(x));
+pub fn print_float(rt: &impl Print, x: f64) -> io::Result<()> {
+    print_word(rt, number::bits::bits_of(x))
 }
 
 // Writes the bits of each of the values.
-pub fn print_floats(values: &[f64]) {
-    let mut i = 0;
-    while i < values.len() {
-        print_float(values[i]);
-        i += 1;
+pub fn print_floats(rt: &impl Print, values: &[f64]) -> io::Result<()> {
+    for x in values {
+        print_float(rt, *x)?;
     }
+    Ok(())
 }
