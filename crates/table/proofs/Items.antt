@@ -1,5 +1,5 @@
 -- Document 01's numbers to meet, items 1 to 11, each in the document's numbers. Item 12 is run. Assumes nothing.
-use mathlib.Core.Path.{◌≡◌, refl}
+use mathlib.Core.Path.{◌∙◌, ◌≡◌, refl}
 use mathlib.Core.Bool.{true}
 use mathlib.Core.List.{List, [], ◌∷◌}
 use mathlib.Core.Logic.{◌⊎◌, inl, inr}
@@ -67,9 +67,16 @@ unfolding fir_of of_bits of_int add sub mul neg
 item_1 = refl
 
 -- 2: "`fir`, alpha 0.5, d [0,4], x 2: 0; d [1,3.5]"; no coefficient is read
-pub item_2 : (c0 c1 : Float) → fir_of ½f 2f (c0 ∷ c1 ∷ []) (0f ∷ 4f ∷ []) ≡ record { d = 1f ∷ 3½f ∷ []; y = 0f }
+unread : (c0 c1 : Float) → fir_of ½f 2f (c0 ∷ c1 ∷ []) (0f ∷ 4f ∷ []) ≡ fir_of ½f 2f [] (0f ∷ 4f ∷ [])
+unfolding fir_of
+unread c0 c1 = refl
+
+none_read : fir_of ½f 2f [] (0f ∷ 4f ∷ []) ≡ record { d = 1f ∷ 3½f ∷ []; y = 0f }
 unfolding fir_of of_bits of_int add sub mul div neg
-item_2 c0 c1 = refl
+none_read = refl
+
+pub item_2 : (c0 c1 : Float) → fir_of ½f 2f (c0 ∷ c1 ∷ []) (0f ∷ 4f ∷ []) ≡ record { d = 1f ∷ 3½f ∷ []; y = 0f }
+item_2 c0 c1 = unread c0 c1 ∙ none_read
 
 -- 3: "`mc2b` of [1,2,4], alpha 0.5: [1,0,4]"
 pub item_3 : mc2b_of ½f (1f ∷ 2f ∷ 4f ∷ []) ≡ 1f ∷ 0f ∷ 4f ∷ []
@@ -107,7 +114,7 @@ item_8 = eight
 
 -- 9: "open with nmcp 1: 1; with 2: 0": 1 whatever else is asked for, 0 where the rest is usual and nlpf is 0
 pub item_9_one : (c : Configuration) (r : Answered) → c.nmcp ≡ 1 → Opens c r → r.number ≡ 1
-item_9_one = calls.item-9-one
+item_9_one = calls.item_9_one
 
 pub item_9_two : (r : Answered) → Opens (sized 2 0) r → r.number ≡ 0
 item_9_two = calls.item_9_two
@@ -115,12 +122,12 @@ item_9_two = calls.item_9_two
 -- 10: "spectrum of 24 or 26 at nmcp 25: 4"
 pub item_10 : (lf0 : Float) (spectrum lpf : List Float) (r : Answered) → (length spectrum ≡ 24) ⊎ (length spectrum ≡ 26)
     → Gives (frame lf0 spectrum lpf) (fresh_voice usual) r → r.number ≡ 4
-item_10 lf0 spectrum lpf r (inl e) = calls.item-10 lf0 spectrum lpf r (λ (h : length spectrum ≡ 25). absurd (omega (arith, e, h)))
-item_10 lf0 spectrum lpf r (inr e) = calls.item-10 lf0 spectrum lpf r (λ (h : length spectrum ≡ 25). absurd (omega (arith, e, h)))
+item_10 lf0 spectrum lpf r (inl e) = calls.item_10 lf0 spectrum lpf r (λ (h : length spectrum ≡ 25). absurd (omega (arith, e, h)))
+item_10 lf0 spectrum lpf r (inr e) = calls.item_10 lf0 spectrum lpf r (λ (h : length spectrum ≡ 25). absurd (omega (arith, e, h)))
 
 pub nmcp_25 : usual.nmcp ≡ 25
 nmcp_25 = refl
 
 -- 11: "draw on a fresh voice: 10", whatever its configuration and the buffer
 pub item_11 : (c : Configuration) (out : List Float) (start : ℕ) (r : Drawn) (after : List Float) → limits_kept c ≡ true → Draws (fresh_voice c) out start r after → r.number ≡ 10
-item_11 = calls.item-11
+item_11 = calls.item_11

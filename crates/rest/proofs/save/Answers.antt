@@ -23,7 +23,7 @@ kept : (c : Else-not-usable) → limits_kept c.args.voice.configuration ≡ true
 kept c = kept_of _ _ _ _ _ (usable_here c)
 
 few : (c : After-count_of-count) → c.count_of-count.result ≤ 917
-few c = let most = count_most _ (kept c.Else-not-usable) in omega (arith, most, c.count_of-count.ensures)
+few c = let most = count_most _ (kept_of _ _ _ _ _ (sym c.usable.ensures ∙ c.if-not-usable.false)) in omega (arith, most, c.count_of-count.ensures)
 
 pub returns-then-not-usable : goal.returns-then-not-usable
 returns-then-not-usable c = saves_idle c.args.voice c.args.out.now (sym c.usable.ensures ∙ c.if-not-usable.true)
