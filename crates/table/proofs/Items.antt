@@ -1,13 +1,13 @@
 -- Document 01's numbers to meet, items 1 to 11, each in the document's numbers. Item 12 is run. Assumes nothing.
 use mathlib.Core.Path.{◌∙◌, ◌≡◌, refl}
-use mathlib.Core.Bool.{true}
+use mathlib.Core.Bool.{true, false}
 use mathlib.Core.List.{List, [], ◌∷◌}
 use mathlib.Core.Logic.{◌⊎◌, inl, inr}
 use Prim.Native.Nat.{ℕ}
 use native.Mathlib.Omega.{arith}
-use lib.IntN.{pos}
+use lib.IntN.{pos, negsuc}
 use lib.ListN.{length, take}
-use lib.Ieee.{Float, binary64, of_bits, of_int, add, sub, mul, div, neg, lt, eq, ne}
+use lib.Ieee.{Float, fin, binary64, of_bits, of_int, add, sub, mul, div, neg, lt, eq, ne}
 use Rattle.number.specs.F64.{◌⊗◌, ◌⊘◌, 0f, ½f, 1f, 2f}
 use Rattle.fir.specs.Fir.{fir_of}
 use Rattle.cepstrum.specs.Cepstrum.{unwarped, mc2b_of, b2mc_of, onward, pass, passes, freqt_of}
@@ -71,12 +71,42 @@ unread : (c0 c1 : Float) → fir_of ½f 2f (c0 ∷ c1 ∷ []) (0f ∷ 4f ∷ [])
 unfolding fir_of
 unread c0 c1 = refl
 
-none_read : fir_of ½f 2f [] (0f ∷ 4f ∷ []) ≡ record { d = 1f ∷ 3½f ∷ []; y = 0f }
-unfolding fir_of of_bits of_int add sub mul div neg
+-- the numbers by their digits: the sum over these takes few steps
+half_is : ½f ≡ fin false 1 (negsuc 0)
+unfolding of_bits
+half_is = refl
+
+two_is : 2f ≡ fin false 1 (pos 1)
+unfolding of_bits
+two_is = refl
+
+four_is : 4f ≡ fin false 1 (pos 2)
+unfolding of_int
+four_is = refl
+
+zero_is : 0f ≡ fin false 0 (pos 0)
+unfolding of_bits
+zero_is = refl
+
+one_is : 1f ≡ fin false 1 (pos 0)
+unfolding of_bits
+one_is = refl
+
+seven_halves : 3½f ≡ fin false 7 (negsuc 0)
+unfolding of_bits of_int div
+seven_halves = refl
+
+none_read : fir_of (fin false 1 (negsuc 0)) (fin false 1 (pos 1)) [] (fin false 0 (pos 0) ∷ fin false 1 (pos 2) ∷ [])
+    ≡ record { d = fin false 1 (pos 0) ∷ fin false 7 (negsuc 0) ∷ []; y = fin false 0 (pos 0) }
+unfolding fir_of of_bits add sub mul neg
 none_read = refl
 
+in_these : (h t f z o s : Float) → h ≡ fin false 1 (negsuc 0) → t ≡ fin false 1 (pos 1) → f ≡ fin false 1 (pos 2) → z ≡ fin false 0 (pos 0)
+    → o ≡ fin false 1 (pos 0) → s ≡ fin false 7 (negsuc 0) → fir_of h t [] (z ∷ f ∷ []) ≡ record { d = o ∷ s ∷ []; y = z }
+in_these h t f z o s a b c d e g = rw (a, b, c, d, e, g) none_read
+
 pub item_2 : (c0 c1 : Float) → fir_of ½f 2f (c0 ∷ c1 ∷ []) (0f ∷ 4f ∷ []) ≡ record { d = 1f ∷ 3½f ∷ []; y = 0f }
-item_2 c0 c1 = unread c0 c1 ∙ none_read
+item_2 c0 c1 = unread c0 c1 ∙ in_these ½f 2f 4f 0f 1f 3½f half_is two_is four_is zero_is one_is seven_halves
 
 -- 3: "`mc2b` of [1,2,4], alpha 0.5: [1,0,4]"
 pub item_3 : mc2b_of ½f (1f ∷ 2f ∷ 4f ∷ []) ≡ 1f ∷ 0f ∷ 4f ∷ []

@@ -36,7 +36,7 @@ pub loop-i-preserved : goal.loop-i-preserved
 loop-i-preserved c =
     let turned = λ (a b : ℕ). Turned c.args.m ((c.loop-i.digits * 2 ^ 2) % 2 ^ 64) a b (c.loop-i.i + 1) in
     elim c.if-next-trial.branch [
-      then-next-trial w ↦ subst₂ turned (sym w.root-is) (sym w.rest-is) (one_digit c.args.m c.loop-i.digits c.loop-i.root c.loop-i.rest c.loop-i.i c.loop-i.invariant c.loop-i-test.true w.if-next-trial.true)
+      | then-next-trial w ↦ subst₂ turned (sym w.root-is) (sym w.rest-is) (one_digit c.args.m c.loop-i.digits c.loop-i.root c.loop-i.rest c.loop-i.i c.loop-i.invariant c.loop-i-test.true w.if-next-trial.true)
       | else-next-trial w ↦ subst₂ turned (sym w.root-is) (sym w.rest-is) (zero_digit c.args.m c.loop-i.digits c.loop-i.root c.loop-i.rest c.loop-i.i c.loop-i.invariant c.loop-i-test.true w.if-next-trial.false)
     ]
 
