@@ -1,5 +1,5 @@
 -- A guess and what its square leaves: the exact test, and the three answers that it allows. Assumes nothing.
-use Rattle.std.proofs.Common.{◌≡◌, ℕ, ◌+◌, ◌-◌, ◌*◌, ◌/◌, ◌%◌, ◌^◌, ◌<◌, ◌≤◌, ◌⊎◌, sym, subst, subst₂, inl, inr, mul-le-mul, arith}
+use Rattle.std.proofs.Common.{◌≡◌, ℕ, ◌+◌, ◌*◌, ◌/◌, ◌%◌, ◌^◌, ◌<◌, ◌≤◌, ◌⊎◌, sym, subst, subst₂, inl, inr, mul-le-mul, arith}
 use Rattle.root.specs.Parts.{NearestTo}
 
 -- two numbers of 27 digits have a product of 54

@@ -1,5 +1,4 @@
 -- `floats_kept` meets its contract. Assumes nothing.
-use borrow.Author.Rules.{rules}
 use mathlib.Core.Path.{refl}
 use lib.Ieee.{of_bits, neg}
 use Rattle.configuration.proofs.floats_kept.Goals as goal

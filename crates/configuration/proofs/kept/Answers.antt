@@ -1,5 +1,4 @@
 -- `kept` meets its contract. Assumes nothing.
-use borrow.Author.Rules.{rules}
 use mathlib.Core.Path.{refl}
 use Rattle.configuration.specs.Limits.{limits_kept}
 use Rattle.configuration.proofs.kept.Goals as goal

@@ -1,7 +1,6 @@
 -- `add_apart` meets its contract. Assumes nothing.
 use native.Mathlib.Omega.{arith}
 use Rattle.delay.proofs.LineLaws.{pulse_apart}
-use borrow.Author.Rules.{rules}
 use Rattle.delay.proofs.add_apart.Goals as goal
 
 pub returns : goal.returns

@@ -1,12 +1,9 @@
 -- `add_each` meets its contract: what the rest of the turns makes of the line is what all of them make. Assumes nothing.
-use mathlib.Core.Path.{◌≡◌, refl, sym, ◌∙◌}
+use mathlib.Core.Path.{◌≡◌}
 use mathlib.Core.List.{◌++◌}
 use Prim.Native.Nat.{◌-◌, ◌≤◌, min}
-use native.Mathlib.Omega.{arith}
-use lib.ListN.{length, take, drop, length-set}
+use lib.ListN.{length, take, drop}
 use Rattle.delay.specs.Line.{with_pulse}
-use Rattle.delay.proofs.LineLaws.{pulse_turn, pulse_end}
-use borrow.Author.Rules.{rules}
 use Rattle.delay.proofs.add_each.Given as goal
 
 abbrev pub invariant-loop-k : goal.invariant-loop-k

@@ -1,7 +1,6 @@
 -- `add_noise` meets its contract. Assumes nothing.
 use mathlib.Core.Path.{refl}
 use Rattle.delay.specs.Line.{with_noise}
-use borrow.Author.Rules.{rules}
 use Rattle.delay.proofs.add_noise.Goals as goal
 
 pub returns : goal.returns

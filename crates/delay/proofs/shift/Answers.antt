@@ -1,12 +1,10 @@
 -- `shift` meets its contract: at each turn the taps below k have moved down. Assumes nothing.
 use mathlib.Core.Path.{◌≡◌, refl, sym, ap, ◌∙◌}
-use Prim.Native.Nat.{ℕ, ◌+◌, ◌-◌, ◌≤◌}
+use Prim.Native.Nat.{ℕ, ◌-◌}
 use native.Mathlib.Omega.{arith}
-use lib.ListN.{length, set, take, drop, length-set}
+use lib.ListN.{length, set, length-set}
 use Rattle.number.specs.F64.{0f}
-use Rattle.number.specs.Lists.{over}
 use Rattle.delay.proofs.LineLaws.{shift_turn, shift_last}
-use borrow.Author.Rules.{rules}
 use Rattle.delay.proofs.shift.Goals as goal
 
 pub loop-k-init : goal.loop-k-init

@@ -1,5 +1,4 @@
 -- `group` meets its contract: four taps by themselves, stored. Assumes nothing.
-use borrow.Author.Rules.{rules}
 use Rattle.fir.proofs.FirLaws.{group_alone}
 use Rattle.fir.proofs.group.Goals as goal
 

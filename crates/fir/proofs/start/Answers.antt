@@ -1,5 +1,4 @@
 -- `start` meets its contract: the first two taps by themselves, stored. Assumes nothing.
-use borrow.Author.Rules.{rules}
 use Rattle.fir.proofs.FirLaws.{start_alone}
 use Rattle.fir.proofs.start.Goals as goal
 

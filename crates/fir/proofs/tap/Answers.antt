@@ -1,5 +1,4 @@
 -- `tap` meets its contract: a tap by itself, stored. Assumes nothing.
-use borrow.Author.Rules.{rules}
 use Rattle.fir.proofs.FirLaws.{tap_alone}
 use Rattle.fir.proofs.tap.Goals as goal
 

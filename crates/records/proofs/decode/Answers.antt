@@ -1,12 +1,8 @@
 -- `decode` meets its contract: what is still to be read. Assumes nothing.
-use borrow.Author.Rules.{rules}
 use mathlib.Core.Path.{◌≡◌, refl, ◌∙◌}
-use mathlib.Core.Bool.{◌&&◌}
-use Prim.Native.Nat.{◌-◌, ◌*◌, ◌≤◌, ◌<◌}
+use Prim.Native.Nat.{◌-◌, ◌≤◌, ◌<◌}
 use native.Mathlib.Omega.{arith}
-use lib.ListN.{length, drop, length-set}
-use lib.Seq.{sets}
-use Rattle.records.specs.Records.{values_in, in_order}
+use lib.ListN.{length, length-set}
 use Rattle.records.proofs.RecordLaws.{values_turn, order_turn, values_end, values_done, order_done}
 use Rattle.records.proofs.decode.Goals as goal
 

@@ -1,11 +1,10 @@
 -- `encode` meets its contract: what is still to be written. Assumes nothing.
-use borrow.Author.Rules.{rules}
-use mathlib.Core.Path.{◌≡◌, refl, ◌∙◌, ap, sym}
-use Prim.Native.Nat.{◌-◌, ◌*◌, ◌≤◌}
+use mathlib.Core.Path.{refl, ◌∙◌, ap, sym}
+use Prim.Native.Nat.{◌*◌}
 use native.Mathlib.Omega.{arith}
-use lib.ListN.{length, get_or, drop}
-use lib.Seq.{sets, length-sets}
-use Rattle.records.specs.Records.{slot, record_of, encoded, numbered}
+use lib.ListN.{length, get_or}
+use lib.Seq.{length-sets}
+use Rattle.records.specs.Records.{slot, record_of}
 use Rattle.records.proofs.RecordLaws.{encode_turn, encode_end}
 use Rattle.records.proofs.encode.Goals as goal
 

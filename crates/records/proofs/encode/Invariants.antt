@@ -1,12 +1,9 @@
 -- `encode` meets its contract: what is still to be written. Assumes nothing.
-use borrow.Author.Rules.{rules}
-use mathlib.Core.Path.{◌≡◌, refl, ◌∙◌, ap, sym}
+use mathlib.Core.Path.{◌≡◌}
 use Prim.Native.Nat.{◌-◌, ◌*◌, ◌≤◌}
-use native.Mathlib.Omega.{arith}
-use lib.ListN.{length, get_or, drop}
-use lib.Seq.{sets, length-sets}
-use Rattle.records.specs.Records.{slot, record_of, encoded, numbered}
-use Rattle.records.proofs.RecordLaws.{encode_turn, encode_end}
+use lib.ListN.{length, drop}
+use lib.Seq.{sets}
+use Rattle.records.specs.Records.{encoded, numbered}
 use Rattle.records.proofs.encode.Given as goal
 
 abbrev pub invariant-loop-i : goal.invariant-loop-i

@@ -1,5 +1,4 @@
 -- `number_at` meets its contract: there is room for the number. Assumes nothing.
-use borrow.Author.Rules.{rules}
 use Rattle.records.proofs.RecordLaws.{number_here, never_short}
 use Rattle.records.proofs.number_at.Goals as goal
 

@@ -1,5 +1,5 @@
 -- `estimate` does nothing undefined: the pattern that it makes is no NaN's. Assumes nothing.
-use Rattle.std.proofs.Common.{◌-◌, ◌/◌, ◌%◌, arith, rules}
+use Rattle.std.proofs.Common.{◌-◌, ◌/◌, ◌%◌, arith}
 use Rattle.root.proofs.Floats.{no_nan}
 use Rattle.root.proofs.estimate.Goals as goal
 

@@ -1,5 +1,5 @@
 -- `rounded` meets its contract: the pattern that it makes is the definition's float. Assumes nothing.
-use Rattle.std.proofs.Common.{◌+◌, ◌*◌, arith, rules}
+use Rattle.std.proofs.Common.{◌+◌, ◌*◌, arith}
 use Rattle.root.proofs.Parts.{H}
 use Rattle.root.proofs.Floats.{no_nan}
 use Rattle.root.proofs.Answers.{answer_below, answer_is}

@@ -1,11 +1,7 @@
 -- `add` meets its contract: what is done, and then the rest added, is the whole. Assumes nothing.
-use borrow.Author.Rules.{rules}
-use mathlib.Core.Path.{◌≡◌, refl, sym, ◌∙◌}
-use mathlib.Core.List.{◌++◌}
-use Prim.Native.Nat.{◌+◌, ◌-◌, ◌≤◌}
+use mathlib.Core.Path.{refl, sym, ◌∙◌}
 use native.Mathlib.Omega.{arith}
-use lib.ListN.{length, take, drop, length-set}
-use Rattle.vectors.specs.Vectors.{plus}
+use lib.ListN.{length-set}
 use Rattle.vectors.proofs.VectorLaws.{plus_turn, plus_done}
 use Rattle.vectors.proofs.add.Goals as goal
 

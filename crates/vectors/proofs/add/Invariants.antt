@@ -1,12 +1,9 @@
 -- `add` meets its contract: what is done, and then the rest added, is the whole. Assumes nothing.
-use borrow.Author.Rules.{rules}
-use mathlib.Core.Path.{◌≡◌, refl, sym, ◌∙◌}
+use mathlib.Core.Path.{◌≡◌}
 use mathlib.Core.List.{◌++◌}
-use Prim.Native.Nat.{◌+◌, ◌-◌, ◌≤◌}
-use native.Mathlib.Omega.{arith}
-use lib.ListN.{length, take, drop, length-set}
+use Prim.Native.Nat.{◌-◌, ◌≤◌}
+use lib.ListN.{length, take, drop}
 use Rattle.vectors.specs.Vectors.{plus}
-use Rattle.vectors.proofs.VectorLaws.{plus_turn, plus_done}
 use Rattle.vectors.proofs.add.Given as goal
 
 abbrev pub invariant-loop-i : goal.invariant-loop-i

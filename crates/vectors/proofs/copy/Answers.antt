@@ -1,13 +1,10 @@
 -- `copy` meets its contract: the first i entries are copied. Assumes nothing.
-use mathlib.Core.Path.{◌≡◌, ◌∙◌}
-use Prim.Native.Nat.{◌-◌, ◌≤◌}
+use mathlib.Core.Path.{◌∙◌}
 use native.Mathlib.Omega.{arith}
 use lib.Ieee.{nan}
-use lib.ListN.{length, take, length-set}
+use lib.ListN.{take, length-set}
 use lib.Seq.{take_all}
-use Rattle.number.specs.Lists.{over}
 use Rattle.number.proofs.Lists.{over_known, over_end}
-use borrow.Author.Rules.{rules}
 use Rattle.vectors.proofs.copy.Goals as goal
 
 pub loop-i-preserved : goal.loop-i-preserved

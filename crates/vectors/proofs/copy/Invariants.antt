@@ -1,13 +1,8 @@
 -- `copy` meets its contract: the first i entries are copied. Assumes nothing.
-use mathlib.Core.Path.{◌≡◌, ◌∙◌}
+use mathlib.Core.Path.{◌≡◌}
 use Prim.Native.Nat.{◌-◌, ◌≤◌}
-use native.Mathlib.Omega.{arith}
-use lib.Ieee.{nan}
-use lib.ListN.{length, take, length-set}
-use lib.Seq.{take_all}
+use lib.ListN.{length, take}
 use Rattle.number.specs.Lists.{over}
-use Rattle.number.proofs.Lists.{over_known, over_end}
-use borrow.Author.Rules.{rules}
 use Rattle.vectors.proofs.copy.Given as goal
 
 abbrev pub invariant-loop-i : goal.invariant-loop-i

@@ -4,9 +4,8 @@ use Prim.Native.Nat.{ℕ, ◌-◌}
 use native.Mathlib.Omega.{arith}
 use lib.ListN.{length}
 use Rattle.number.specs.F64.{◌⊗◌, ◌‼◌}
-use Rattle.vectors.specs.Vectors.{sum_from, energy_of}
+use Rattle.vectors.specs.Vectors.{energy_of}
 use Rattle.vectors.proofs.VectorLaws.{sum_turn, sum_done}
-use borrow.Author.Rules.{rules}
 use Rattle.vectors.proofs.energy.Goals as goal
 
 pub loop-i-init : goal.loop-i-init

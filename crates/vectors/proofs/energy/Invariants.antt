@@ -1,12 +1,9 @@
 -- `energy` meets its contract: the terms that are left give what all of them give. Assumes nothing.
-use mathlib.Core.Path.{◌≡◌, refl, sym, ◌∙◌}
-use Prim.Native.Nat.{ℕ, ◌-◌}
-use native.Mathlib.Omega.{arith}
+use mathlib.Core.Path.{◌≡◌}
+use Prim.Native.Nat.{◌-◌}
 use lib.ListN.{length}
 use Rattle.number.specs.F64.{◌⊗◌, ◌‼◌}
 use Rattle.vectors.specs.Vectors.{sum_from, energy_of}
-use Rattle.vectors.proofs.VectorLaws.{sum_turn, sum_done}
-use borrow.Author.Rules.{rules}
 use Rattle.vectors.proofs.energy.Given as goal
 
 abbrev pub invariant-loop-i : goal.invariant-loop-i

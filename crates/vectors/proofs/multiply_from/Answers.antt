@@ -1,14 +1,11 @@
 -- `multiply_from` meets its contract: what is made of the rest is what is made of all. Assumes nothing.
-use mathlib.Core.Path.{◌≡◌, refl, sym, ◌∙◌}
-use mathlib.Core.List.{◌++◌, map}
-use Prim.Native.Nat.{◌-◌}
+use mathlib.Core.Path.{refl, sym, ◌∙◌}
 use native.Mathlib.Omega.{arith}
 use lib.Ieee.{Float}
-use lib.ListN.{length, take, drop, length-set}
+use lib.ListN.{length-set}
 use Rattle.number.specs.F64.{◌⊗◌}
 use Rattle.vectors.specs.Vectors.{times_from}
 use Rattle.vectors.proofs.VectorLaws.{map_turn, map_done}
-use borrow.Author.Rules.{rules}
 use Rattle.vectors.proofs.multiply_from.Goals as goal
 
 pub loop-i-init : goal.loop-i-init

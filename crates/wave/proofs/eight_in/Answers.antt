@@ -4,7 +4,6 @@ use native.Mathlib.Omega.{arith}
 use lib.ListN.{length-set}
 use Rattle.wave.specs.Wave.{made_by}
 use Rattle.wave.proofs.WaveLaws.{wave_stored}
-use borrow.Author.Rules.{rules}
 use Rattle.wave.proofs.eight_in.Goals as goal
 
 pub shape_of-g : goal.shape_of-g

@@ -4,7 +4,6 @@ use mathlib.Core.List.{List}
 use lib.Ieee.{Float}
 use Rattle.wave.specs.Wave.{first_after, seconds_of}
 use Rattle.wave.proofs.WaveLaws.{eight_elements}
-use borrow.Author.Rules.{rules}
 use Rattle.wave.proofs.start.Goals as goal
 
 pub returns : goal.returns

@@ -1,11 +1,10 @@
 -- `sweep_in` meets its contract: what is done, with what the definition makes of the rest, is what it makes of all. Assumes nothing.
-use mathlib.Core.Path.{◌≡◌, refl, sym, ◌∙◌}
-use Prim.Native.Nat.{◌+◌, ◌-◌, ◌≤◌}
+use mathlib.Core.Path.{refl, sym, ◌∙◌}
+use Prim.Native.Nat.{◌+◌}
 use native.Mathlib.Omega.{arith}
-use lib.ListN.{length, length-set}
+use lib.ListN.{length-set}
 use Rattle.wave.specs.Wave.{made_by}
-use Rattle.wave.proofs.WaveLaws.{swept_from, one_stored, two_stored, swept_end}
-use borrow.Author.Rules.{rules}
+use Rattle.wave.proofs.WaveLaws.{one_stored, two_stored, swept_end}
 use Rattle.wave.proofs.sweep_in.Goals as goal
 
 pub bounds-g-j-in-loop-g-3 : goal.bounds-g-j-in-loop-g-3

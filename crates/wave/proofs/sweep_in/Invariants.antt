@@ -1,11 +1,9 @@
 -- `sweep_in` meets its contract: what is done, with what the definition makes of the rest, is what it makes of all. Assumes nothing.
-use mathlib.Core.Path.{◌≡◌, refl, sym, ◌∙◌}
-use Prim.Native.Nat.{◌+◌, ◌-◌, ◌≤◌}
-use native.Mathlib.Omega.{arith}
-use lib.ListN.{length, length-set}
+use mathlib.Core.Path.{◌≡◌}
+use Prim.Native.Nat.{◌-◌, ◌≤◌}
+use lib.ListN.{length}
 use Rattle.wave.specs.Wave.{made_by}
-use Rattle.wave.proofs.WaveLaws.{swept_from, one_stored, two_stored, swept_end}
-use borrow.Author.Rules.{rules}
+use Rattle.wave.proofs.WaveLaws.{swept_from}
 use Rattle.wave.proofs.sweep_in.Given as goal
 
 abbrev pub invariant-loop-g : goal.invariant-loop-g

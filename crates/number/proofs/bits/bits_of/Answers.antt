@@ -1,5 +1,5 @@
 -- `bits_of`: a float that equals itself is no NaN, and one that does not is the NaN. Assumes nothing.
-use Rattle.std.proofs.Common.{refl, rules}
+use Rattle.std.proofs.Common.{refl}
 use lib.Ieee.{to_bits}
 use Rattle.number.proofs.Floats.{itself_no_nan, not_itself_nan}
 use Rattle.number.proofs.bits.bits_of.Goals as goal

@@ -1,5 +1,5 @@
 -- `float_of`: up to an infinity's pattern there is no NaN, and above it every pattern is one. Assumes nothing.
-use Rattle.std.proofs.Common.{sym, arith, rules}
+use Rattle.std.proofs.Common.{sym, arith}
 use lib.Ieee.{div, of_bits}
 use Rattle.number.proofs.BitLaws.{below_no_nan, above_nan, nan_of_bits}
 use Rattle.number.proofs.bits.float_of.Goals as goal

@@ -1,5 +1,5 @@
 -- `get_word`: where there is room it is the number that `read` finds. Assumes nothing.
-use Rattle.std.proofs.Common.{◌+◌, length, sym, ap, ◌∙◌, rules, leb-true}
+use Rattle.std.proofs.Common.{◌+◌, length, sym, ap, ◌∙◌, leb-true}
 use Rattle.number.specs.declared.word.Word.TheVariants.{Value}
 use Rattle.number.proofs.ByteLaws.{word_there}
 use Rattle.number.proofs.word.get_word.Goals as goal

@@ -1,5 +1,5 @@
 -- `put_word`: where there is room it is what `write` leaves. Assumes nothing.
-use Rattle.std.proofs.Common.{◌+◌, length, sym, ◌∙◌, rules, leb-true}
+use Rattle.std.proofs.Common.{◌+◌, length, sym, ◌∙◌, leb-true}
 use Rattle.number.proofs.ByteLaws.{put_there}
 use Rattle.number.proofs.word.put_word.Goals as goal
 

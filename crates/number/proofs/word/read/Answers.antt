@@ -1,5 +1,5 @@
 -- `read`: v is the number of the last k of the eight bytes, and seven of them leave room for one more. Assumes nothing.
-use Rattle.std.proofs.Common.{◌≡◌, ◌+◌, ◌-◌, ◌≤◌, take, drop, ◌∙◌, add-zero, arith, rules}
+use Rattle.std.proofs.Common.{◌≡◌, ◌+◌, ◌-◌, ◌∙◌, add-zero, arith, rules}
 use Rattle.number.specs.Bytes.{number_of, Bytes}
 use Rattle.number.proofs.ByteLaws.{seven_below, read_turn}
 use Rattle.number.proofs.word.read.Goals as goal

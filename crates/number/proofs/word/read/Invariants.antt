@@ -1,7 +1,6 @@
 -- `read`: v is the number of the last k of the eight bytes, and seven of them leave room for one more. Assumes nothing.
-use Rattle.std.proofs.Common.{◌≡◌, ◌+◌, ◌-◌, ◌≤◌, take, drop, ◌∙◌, add-zero, arith, rules}
-use Rattle.number.specs.Bytes.{number_of, Bytes}
-use Rattle.number.proofs.ByteLaws.{seven_below, read_turn}
+use Rattle.std.proofs.Common.{◌≡◌, ◌+◌, ◌-◌, ◌≤◌, take, drop}
+use Rattle.number.specs.Bytes.{number_of}
 use Rattle.number.proofs.word.read.Given as goal
 
 abbrev pub invariant-loop-k : goal.invariant-loop-k

@@ -1,6 +1,5 @@
 -- `write`: storing the bytes of what is left of v from `at + i` on gives what storing all of v's from `at` on gives. Assumes nothing.
-use Rattle.std.proofs.Common.{◌≡◌, ◌+◌, ◌-◌, ◌≤◌, length, refl, ◌∙◌, add-zero, arith, length-set, rules}
-use lib.Seq.{sets}
+use Rattle.std.proofs.Common.{◌≡◌, ◌-◌, refl, ◌∙◌, add-zero, arith, length-set}
 use Rattle.number.specs.Bytes.{bytes_of}
 use Rattle.number.proofs.ByteLaws.{write_turn, written}
 use Rattle.number.proofs.word.write.Goals as goal

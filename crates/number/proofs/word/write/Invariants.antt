@@ -1,8 +1,7 @@
 -- `write`: storing the bytes of what is left of v from `at + i` on gives what storing all of v's from `at` on gives. Assumes nothing.
-use Rattle.std.proofs.Common.{◌≡◌, ◌+◌, ◌-◌, ◌≤◌, length, refl, ◌∙◌, add-zero, arith, length-set, rules}
+use Rattle.std.proofs.Common.{◌≡◌, ◌+◌, ◌-◌, ◌≤◌, length}
 use lib.Seq.{sets}
 use Rattle.number.specs.Bytes.{bytes_of}
-use Rattle.number.proofs.ByteLaws.{write_turn, written}
 use Rattle.number.proofs.word.write.Given as goal
 
 abbrev pub invariant-loop-i : goal.invariant-loop-i

@@ -1,5 +1,5 @@
 -- `wrapping_mul`: the products of halves fit, and make the product. Assumes nothing.
-use Rattle.std.proofs.Common.{◌∙◌, arith, rules}
+use Rattle.std.proofs.Common.{◌∙◌, arith}
 use Rattle.number.proofs.Modulo.{halves_fit, product_of_halves}
 use Rattle.number.proofs.wrapping.wrapping_mul.Goals as goal
 

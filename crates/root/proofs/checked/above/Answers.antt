@@ -1,5 +1,5 @@
 -- `above` meets its contract: its two tests tell which of three numbers is nearest. Assumes nothing.
-use Rattle.std.proofs.Common.{◌≡◌, ℕ, ◌+◌, ◌*◌, ◌<◌, ◌≤◌, ◌⊎◌, inl, inr, ⊎_elim, arith, rules}
+use Rattle.std.proofs.Common.{◌≡◌, ℕ, ◌+◌, ◌*◌, ◌<◌, ◌≤◌, ◌⊎◌, inl, inr, arith}
 use Rattle.root.proofs.Guess.{above_is}
 use Rattle.root.proofs.checked.above.Goals as goal
 use Rattle.root.proofs.checked.above.Goals.{Joined-rest-g, Joined-rest-g-2, then-rest-g, else-rest-g, then-rest-g-2, else-rest-g-2}

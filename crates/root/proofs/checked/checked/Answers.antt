@@ -1,12 +1,8 @@
 -- `checked` meets its contract, by the exact test or by the plain method. Assumes nothing.
-use Rattle.std.proofs.Common.{◌≡◌, ◌+◌, ◌*◌, ◌^◌, subst, arith, rules}
+use Rattle.std.proofs.Common.{◌≡◌, ◌+◌, ◌*◌, ◌^◌, subst, arith}
 use Rattle.root.specs.declared.checked.Rest.{Rest}
 use Rattle.root.specs.declared.checked.Rest.TheVariants.{Of}
 use Rattle.root.specs.Parts.{RestOf}
-use Rattle.root.proofs.checked.checked.Reads as reads
-use Rattle.root.proofs.checked.above.Reads as above-reads
-use Rattle.root.proofs.checked.rest_of.Reads as rest-of-reads
-use Rattle.root.proofs.digits.nearest_root.Reads as nearest-root-reads
 use Rattle.root.proofs.checked.checked.Goals as goal
 
 pub returns : goal.returns

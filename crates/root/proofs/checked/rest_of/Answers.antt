@@ -1,5 +1,5 @@
 -- `rest_of` meets its contract: the tests make each difference exact, and the three steps take q * q off. Assumes nothing.
-use Rattle.std.proofs.Common.{◌/◌, ◌%◌, arith, rules}
+use Rattle.std.proofs.Common.{◌/◌, ◌%◌, arith}
 use Rattle.root.proofs.Guess.{product27, left}
 use Rattle.root.proofs.checked.rest_of.Goals as goal
 

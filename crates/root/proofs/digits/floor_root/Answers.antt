@@ -1,5 +1,5 @@
 -- `floor_root` meets its contract: each turn keeps `Turned`, whichever way its test goes. Assumes nothing.
-use Rattle.std.proofs.Common.{ℕ, ◌+◌, ◌-◌, ◌*◌, ◌%◌, ◌^◌, ◌<◌, sym, subst₂, ⊎_elim, arith, rules}
+use Rattle.std.proofs.Common.{ℕ, ◌+◌, ◌*◌, ◌%◌, ◌^◌, ◌<◌, sym, subst₂, arith}
 use Rattle.root.proofs.Turns.{Turned, first, room, one_digit, zero_digit, last}
 use Rattle.root.proofs.digits.floor_root.Goals as goal
 use Rattle.root.proofs.digits.floor_root.Goals.{In-loop-i, then-next-trial, else-next-trial}

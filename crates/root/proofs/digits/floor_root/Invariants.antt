@@ -1,6 +1,6 @@
 -- `floor_root` meets its contract: each turn keeps `Turned`, whichever way its test goes. Assumes nothing.
-use Rattle.std.proofs.Common.{ℕ, ◌+◌, ◌-◌, ◌*◌, ◌%◌, ◌^◌, ◌<◌, sym, subst₂, ⊎_elim, arith, rules}
-use Rattle.root.proofs.Turns.{Turned, first, room, one_digit, zero_digit, last}
+use Rattle.std.proofs.Common.{◌-◌}
+use Rattle.root.proofs.Turns.{Turned}
 use Rattle.root.proofs.digits.floor_root.Given as goal
 
 abbrev pub invariant-loop-i : goal.invariant-loop-i

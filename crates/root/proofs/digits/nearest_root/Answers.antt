@@ -1,5 +1,5 @@
 -- `nearest_root` meets its contract, by what `floor_root` leaves. Assumes nothing.
-use Rattle.std.proofs.Common.{◌*◌, ◌^◌, arith, rules}
+use Rattle.std.proofs.Common.{◌*◌, ◌^◌, arith}
 use Rattle.root.proofs.Whole.{stays, moves_up}
 use Rattle.root.proofs.digits.nearest_root.Goals as goal
 

@@ -1,5 +1,5 @@
 -- `even` meets its contract: the odd factor of two goes to m. Assumes nothing.
-use Rattle.std.proofs.Common.{arith, rules}
+use Rattle.std.proofs.Common.{arith}
 use Rattle.root.proofs.Parts.{even_is}
 use Rattle.root.proofs.pattern.even.Goals as goal
 

@@ -1,5 +1,5 @@
 -- `split` meets its contract, below the normal patterns and among them. Assumes nothing.
-use Rattle.std.proofs.Common.{ℕ, ◌-◌, ◌*◌, ◌^◌, ◌<◌, ◌≤◌, sym, ap, ◌∙◌, subst, arith, rules}
+use Rattle.std.proofs.Common.{ℕ, ◌-◌, ◌*◌, ◌^◌, ◌<◌, ◌≤◌, sym, ap, ◌∙◌, subst, arith}
 use lib.Count.{count_leading_zeros}
 use Rattle.root.proofs.Parts.{H, Shift, shift, shifted, subnormal_split, normal_split}
 use Rattle.root.proofs.pattern.split.Goals as goal
