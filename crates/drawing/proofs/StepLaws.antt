@@ -13,7 +13,7 @@ use Rattle.history.specs.Feeding.{Feeding, turned_by}
 use Rattle.excitation.specs.Excitation.{Excitation, step_of}
 use Rattle.voice.specs.declared.Voice.{Voice}
 use Rattle.voice.proofs.FrontLaws.{front_twice, front_again, front_of}
-use Rattle.drawing.specs.Step.{Filters, taps_of, increments_of, sound_of, with_sound, counted, closed, closed_at_end, turn_of, sound_step, stepped, step}
+use Rattle.drawing.specs.Step.{Filters, taps_of, increments_of, sound_of, with_sound, counted, closed_at_end, turn_of, sound_step, stepped, step}
 use Rattle.drawing.proofs.KeepLaws.{Taps, taps_kept, entries_kept}
 
 abbrev Sound : Type 0

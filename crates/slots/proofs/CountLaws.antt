@@ -12,7 +12,6 @@ use lib.Ieee.{Float}
 use mir.Val.{Val}
 use denote.Laws.{Is}
 use denote.Struct.Declared.{row}
-use borrow.Author.Rules.{length_unmapped}
 use borrow.Author.Tests.{eq-eqb, ne_eqb}
 use Rattle.number.specs.Bits.{bits_of}
 use Rattle.configuration.specs.declared.Configuration.{Configuration}

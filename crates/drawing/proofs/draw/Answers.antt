@@ -1,11 +1,10 @@
 -- `draw` meets its contract. Assumes nothing.
-use borrow.Author.Rules.{rules}
 use mathlib.Core.Path.{◌≡◌, sym, ap, ◌∙◌, subst}
 use Prim.Native.Nat.{ℕ, ◌+◌, ◌-◌, ◌≤◌, ◌<◌}
 use native.Mathlib.Omega.{arith}
 use native.Mathlib.Nat.{min-le_left, min-le_right}
 use lib.ListN.{length, length-append, length-drop}
-use borrow.Author.Tests.{eq-eqb, ne_eqb, not-true, not-false}
+use borrow.Author.Tests.{eq-eqb, ne_eqb}
 use Rattle.number.specs.Lists.{row}
 use Rattle.voice.proofs.IdleLaws.{kept_of, total_of}
 use Rattle.drawing.proofs.DrawLaws.{lent_part, draws_idle, draws_none_left, draws_no_room, draws_made}

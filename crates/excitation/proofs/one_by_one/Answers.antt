@@ -1,12 +1,11 @@
 -- `one_by_one` meets its contract: after i turns the state is that after i samples, and they stand in `out`. Assumes nothing.
 use mathlib.Core.Path.{◌≡◌, refl, sym, ap, ◌∙◌}
-use Prim.Native.Nat.{◌-◌, ◌≤◌}
 use native.Mathlib.Omega.{arith}
 use lib.ListN.{length, length-set}
-use Rattle.history.proofs.StepLaws.{Reached, reached_none, reached_more, reached_end, reached_dry}
+use Rattle.history.proofs.StepLaws.{reached_none, reached_more, reached_end, reached_dry}
 use Rattle.noise.specs.Draw.{tries}
 use Rattle.excitation.specs.declared.Sample.{Sample}
-use Rattle.excitation.specs.Excitation.{excitation, step_of, sampled_of}
+use Rattle.excitation.specs.Excitation.{step_of, sampled_of}
 use borrow.Author.Rules.{rules}
 use Rattle.excitation.proofs.one_by_one.Goals as goal
 

@@ -1,8 +1,6 @@
 -- `kipawnore_mglsa_stretch` meets its contract: a test of the lengths, and the stretch that it calls. Assumes nothing.
-use borrow.Author.Rules.{rules}
 use mathlib.Core.Path.{refl, sym, ◌∙◌}
 use native.Mathlib.Omega.{arith}
-use borrow.Author.Tests.{not-true, not-false}
 use Rattle.export_filters.proofs.FiltersLaws.{nonzero_in}
 use lib.ListN.{length}
 use Rattle.export_filters.proofs.kipawnore_mglsa_stretch.Goals as goal

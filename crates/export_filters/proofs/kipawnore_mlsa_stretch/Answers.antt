@@ -1,8 +1,6 @@
 -- `kipawnore_mlsa_stretch` meets its contract: a test of the lengths, and the stretch that it calls. Assumes nothing.
-use borrow.Author.Rules.{rules}
 use mathlib.Core.Path.{refl, sym, ◌∙◌}
 use native.Mathlib.Omega.{arith}
-use borrow.Author.Tests.{not-true, not-false}
 use Rattle.export_filters.proofs.FiltersLaws.{zero_in}
 use Rattle.export_filters.proofs.kipawnore_mlsa_stretch.Goals as goal
 

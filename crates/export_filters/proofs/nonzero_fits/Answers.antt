@@ -1,9 +1,7 @@
 -- `nonzero_fits` meets its contract. Assumes nothing.
-use borrow.Author.Rules.{rules}
 use mathlib.Core.Path.{refl, sym, ◌∙◌}
 use native.Mathlib.Nat.{mul-le-mul_right}
 use native.Mathlib.Omega.{arith}
-use borrow.Author.Tests.{not-true, not-false}
 use Rattle.limits.proofs.LimitsLaws.{entries_in, stage_in}
 use Rattle.export_filters.proofs.nonzero_fits.Goals as goal
 

@@ -1,8 +1,7 @@
 -- `zero_fits` meets its contract. Assumes nothing.
-use borrow.Author.Rules.{rules}
 use mathlib.Core.Path.{refl, sym, ◌∙◌}
 use native.Mathlib.Omega.{arith}
-use borrow.Author.Tests.{eq-eqb, ne_eqb, not-true, not-false}
+use borrow.Author.Tests.{eq-eqb, ne_eqb}
 use Rattle.limits.proofs.LimitsLaws.{entries_in}
 use Rattle.export_filters.proofs.zero_fits.Goals as goal
 

@@ -1,10 +1,9 @@
 -- `kipawnore_b2en` meets its contract: a test of the limits, and the function that it calls. Assumes nothing.
 use mathlib.Core.Path.{refl, sym, ap, ◌∙◌}
-use borrow.Author.Tests.{not-true, not-false, eq-eqb, ne_eqb}
+use borrow.Author.Tests.{eq-eqb, ne_eqb}
 use Rattle.limits.proofs.LimitsLaws.{entries_in, one_entry}
 use mathlib.Core.List.{[], ◌∷◌}
 use lib.Ieee.{Float}
-use borrow.Author.Rules.{rules}
 use Rattle.export_mel.proofs.kipawnore_b2en.Goals as goal
 
 pub returns-then-not-entries : goal.returns-then-not-entries

@@ -2,7 +2,6 @@
 use mathlib.Core.Path.{refl, sym, ap, ◌∙◌}
 use borrow.Author.Tests.{eq-eqb, ne_eqb}
 use Rattle.cepstrum.specs.Cepstrum.{c2ir_of}
-use borrow.Author.Rules.{rules}
 use Rattle.export_mel.proofs.kipawnore_c2ir.Goals as goal
 
 pub returns-then-c-ne576 : goal.returns-then-c-ne576

@@ -1,7 +1,6 @@
 -- `kipawnore_freqt` meets its contract: a test of the limits, and the function that it calls. Assumes nothing.
 use mathlib.Core.Path.{refl, sym, ◌∙◌}
-use borrow.Author.Tests.{not-true, not-false, eq-eqb, ne_eqb}
-use borrow.Author.Rules.{rules}
+use borrow.Author.Tests.{eq-eqb, ne_eqb}
 use Rattle.export_mel.proofs.kipawnore_freqt.Goals as goal
 
 pub returns-then-not-entries : goal.returns-then-not-entries

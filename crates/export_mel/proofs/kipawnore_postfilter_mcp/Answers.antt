@@ -1,9 +1,7 @@
 -- `kipawnore_postfilter_mcp` meets its contract: a test of the limits, and the function that it calls. Assumes nothing.
 use mathlib.Core.Path.{refl, sym, ◌∙◌}
-use borrow.Author.Tests.{not-true, not-false}
 use Rattle.postfilter.specs.Mel.{postfilter_mcp_of}
 use Rattle.limits.proofs.LimitsLaws.{entries_in, number_of}
-use borrow.Author.Rules.{rules}
 use Rattle.export_mel.proofs.kipawnore_postfilter_mcp.Goals as goal
 
 pub returns-then-not-entries : goal.returns-then-not-entries

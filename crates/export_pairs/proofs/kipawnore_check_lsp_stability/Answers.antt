@@ -1,8 +1,6 @@
 -- `kipawnore_check_lsp_stability` meets its contract: a test of the limits, and the function that it calls. Assumes nothing.
 use mathlib.Core.Path.{refl, sym, ◌∙◌}
-use borrow.Author.Tests.{not-true, not-false}
 use Rattle.limits.proofs.LimitsLaws.{entries_in}
-use borrow.Author.Rules.{rules}
 use Rattle.export_pairs.proofs.kipawnore_check_lsp_stability.Goals as goal
 
 pub returns-then-not-entries : goal.returns-then-not-entries

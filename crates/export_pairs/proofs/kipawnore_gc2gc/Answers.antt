@@ -1,8 +1,7 @@
 -- `kipawnore_gc2gc` meets its contract: a test of the limits, and the function that it calls. Assumes nothing.
 use mathlib.Core.Path.{refl, sym, ◌∙◌}
-use borrow.Author.Tests.{not-true, not-false, lt-leb, le-leb}
+use borrow.Author.Tests.{lt-leb, le-leb}
 use Rattle.limits.proofs.LimitsLaws.{general_in}
-use borrow.Author.Rules.{rules}
 use Rattle.export_pairs.proofs.kipawnore_gc2gc.Goals as goal
 
 pub returns-then-not-general : goal.returns-then-not-general

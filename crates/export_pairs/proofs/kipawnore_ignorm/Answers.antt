@@ -1,9 +1,7 @@
 -- `kipawnore_ignorm` meets its contract: a test of the limits, and the function that it calls. Assumes nothing.
 use mathlib.Core.Path.{refl, sym, ◌∙◌}
-use borrow.Author.Tests.{not-true, not-false}
 use Rattle.generalized.specs.Generalized.{ignorm_of}
 use Rattle.limits.proofs.LimitsLaws.{general_in, number_of}
-use borrow.Author.Rules.{rules}
 use Rattle.export_pairs.proofs.kipawnore_ignorm.Goals as goal
 
 pub returns-then-not-general : goal.returns-then-not-general

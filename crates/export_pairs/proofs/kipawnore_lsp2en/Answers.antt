@@ -1,10 +1,9 @@
 -- `kipawnore_lsp2en` meets its contract: a test of the limits, and the function that it calls. Assumes nothing.
 use mathlib.Core.Path.{refl, sym, ◌∙◌}
-use borrow.Author.Tests.{not-true, not-false, eq-eqb, ne_eqb}
+use borrow.Author.Tests.{eq-eqb, ne_eqb}
 use Rattle.limits.proofs.LimitsLaws.{entries_in, stage_in, one_entry}
 use Rattle.elementary.proofs.OutcomeLaws.{answer_outside, answer_inside}
 use Rattle.lsp.specs.Lsp.{lsp2en_of}
-use borrow.Author.Rules.{rules}
 use Rattle.export_pairs.proofs.kipawnore_lsp2en.Goals as goal
 
 pub returns-then-not-entries : goal.returns-then-not-entries

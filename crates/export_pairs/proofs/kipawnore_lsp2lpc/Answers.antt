@@ -1,9 +1,8 @@
 -- `kipawnore_lsp2lpc` meets its contract: a test of the limits, and the function that it calls. Assumes nothing.
 use mathlib.Core.Path.{refl, sym, ◌∙◌}
-use borrow.Author.Tests.{not-true, not-false, eq-eqb, ne_eqb}
+use borrow.Author.Tests.{eq-eqb, ne_eqb}
 use Rattle.lattice.specs.Lattice.{lsp2lpc_of}
 use Rattle.limits.proofs.LimitsLaws.{entries_in, number_of}
-use borrow.Author.Rules.{rules}
 use Rattle.export_pairs.proofs.kipawnore_lsp2lpc.Goals as goal
 
 pub returns-then-not-entries : goal.returns-then-not-entries

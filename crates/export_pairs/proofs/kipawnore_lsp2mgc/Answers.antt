@@ -1,9 +1,7 @@
 -- `kipawnore_lsp2mgc` meets its contract: a test of the limits, and the function that it calls. Assumes nothing.
 use mathlib.Core.Path.{refl, sym, ◌∙◌}
-use borrow.Author.Tests.{not-true, not-false}
 use Rattle.lsp.specs.Lsp.{lsp2mgc_of}
 use Rattle.limits.proofs.LimitsLaws.{entries_in, stage_in, number_of}
-use borrow.Author.Rules.{rules}
 use Rattle.export_pairs.proofs.kipawnore_lsp2mgc.Goals as goal
 
 pub returns-then-not-entries : goal.returns-then-not-entries

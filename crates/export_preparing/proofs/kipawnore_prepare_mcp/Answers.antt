@@ -1,9 +1,7 @@
 -- `kipawnore_prepare_mcp` meets its contract: a test of the limits, and the function that it calls. Assumes nothing.
 use mathlib.Core.Path.{refl, sym, ◌∙◌}
-use borrow.Author.Tests.{not-true, not-false}
 use Rattle.prepare.specs.Preparing.{prepared_mcp}
 use Rattle.limits.proofs.LimitsLaws.{entries_in, number_of}
-use borrow.Author.Rules.{rules}
 use Rattle.export_preparing.proofs.kipawnore_prepare_mcp.Goals as goal
 
 pub returns-then-not-entries : goal.returns-then-not-entries

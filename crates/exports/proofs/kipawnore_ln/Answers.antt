@@ -1,6 +1,5 @@
 -- The number of the answer is that of the definition's. Assumes nothing.
 use mathlib.Core.Path.{◌∙◌, ap}
-use borrow.Author.Rules.{rules}
 use Rattle.elementary.specs.Band.{number_of}
 use Rattle.exports.proofs.kipawnore_ln.Goals as goal
 

@@ -1,5 +1,4 @@
 -- `kipawnore_start` meets its contract. Assumes nothing.
-use borrow.Author.Rules.{rules}
 use Rattle.exports.proofs.kipawnore_start.Goals as goal
 
 pub returns : goal.returns

@@ -1,5 +1,4 @@
 -- `give` meets its contract. Assumes nothing.
-use borrow.Author.Rules.{rules}
 use mathlib.Core.Path.{sym, ◌∙◌}
 use Rattle.refusing.specs.Refusal.{frame}
 use Rattle.giving.proofs.GiveLaws.{refused, accepted}

@@ -1,7 +1,6 @@
 -- `general` meets its contract. Assumes nothing.
 use mathlib.Core.Path.{refl}
 use borrow.Author.Tests.{le-leb, lt-leb}
-use borrow.Author.Rules.{rules}
 use Rattle.limits.proofs.general.Goals as goal
 
 pub returns-then-n-le65 : goal.returns-then-n-le65

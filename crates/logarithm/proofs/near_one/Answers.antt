@@ -1,5 +1,4 @@
 -- `near_one` meets its contract. Assumes nothing.
-use borrow.Author.Rules.{rules}
 use Rattle.logarithm.specs.Ln.{near_one}
 use Rattle.logarithm.proofs.near_one.Goals as goal
 

@@ -1,6 +1,5 @@
 -- `of_pattern` meets its contract. Assumes nothing.
 use mathlib.Core.Path.{refl}
-use borrow.Author.Rules.{rules}
 use native.Mathlib.Omega.{arith}
 use Rattle.root.proofs.Floats.{no_nan}
 use Rattle.logarithm.specs.Ln.{field, part, turns, of_pattern}

@@ -4,7 +4,6 @@ use mathlib.Core.Bool.{false≢true}
 use native.Mathlib.Omega.{arith}
 use lib.Dec.{T}
 use lib.Ieee.{binary64, fits}
-use borrow.Author.Rules.{rules}
 use Rattle.root.proofs.Floats.{no_nan}
 use Rattle.lost.proofs.LostLaws.{lost_above, lost_below}
 use Rattle.lost.proofs.unmoved.Goals as goal

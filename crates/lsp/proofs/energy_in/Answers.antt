@@ -4,7 +4,6 @@ use Rattle.elementary.specs.declared.answer.Answer.TheVariants.{Inside}
 use Rattle.elementary.proofs.OutcomeLaws.{is_outside, is_inside}
 use Rattle.lsp.specs.Lsp.{lsp2mgc_of}
 use Rattle.lsp.proofs.LspLaws.{en_outside, en_inside}
-use borrow.Author.Rules.{rules}
 use Rattle.lsp.proofs.energy_in.Goals as goal
 
 pub returns-in_default : goal.returns-in_default

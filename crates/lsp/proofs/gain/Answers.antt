@@ -1,7 +1,6 @@
 -- `gain` meets its contract. Assumes nothing.
 use mathlib.Core.Path.{refl}
 use Rattle.lsp.specs.Lsp.{gain_of}
-use borrow.Author.Rules.{rules}
 use Rattle.lsp.proofs.gain.Goals as goal
 
 pub returns-then-log : goal.returns-then-log

@@ -7,7 +7,6 @@ use Rattle.generalized.specs.Generalized.{ignorm_of}
 use Rattle.lattice.specs.Lattice.{lsp2lpc_of}
 use Rattle.number.proofs.Floats.{small_float}
 use Rattle.lsp.proofs.LspLaws.{mgc_outside_lpc, mgc_outside_gain, mgc_of}
-use borrow.Author.Rules.{rules}
 use Rattle.lsp.proofs.mgc_in.Goals as goal
 
 pub returns-in_default : goal.returns-in_default

@@ -1,10 +1,8 @@
 -- `df` meets its contract: the stages that are left make of the taps here what all of them make of them at the start. Assumes nothing.
-use mathlib.Core.Path.{◌≡◌, refl, sym, ap, ◌∙◌}
-use Prim.Native.Nat.{◌+◌, ◌-◌, ◌≤◌}
-use native.Mathlib.Omega.{arith}
+use mathlib.Core.Path.{◌≡◌}
+use Prim.Native.Nat.{◌-◌, ◌≤◌}
 use lib.ListN.{length}
-use Rattle.mglsa.specs.Mglsa.{passed, stages_from, turned, df_of}
-use Rattle.mglsa.proofs.MglsaLaws.{stage_turn, stages_turn, stage_end, row_within, rows_within}
+use Rattle.mglsa.specs.Mglsa.{passed, stages_from}
 use Rattle.mglsa.proofs.df.Given as goal
 
 abbrev pub invariant-loop-i : goal.invariant-loop-i

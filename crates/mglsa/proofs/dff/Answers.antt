@@ -1,5 +1,4 @@
 -- `dff` meets its contract. Assumes nothing.
-use borrow.Author.Rules.{rules}
 use Rattle.mglsa.proofs.MglsaLaws.{dff_of_lem}
 use Rattle.mglsa.proofs.dff.Goals as goal
 

@@ -1,10 +1,7 @@
 -- `push` meets its contract: what is done, and then the rest pushed on, is the whole. Assumes nothing.
-use borrow.Author.Rules.{rules}
-use mathlib.Core.Path.{◌≡◌, refl, sym, ◌∙◌}
-use mathlib.Core.List.{◌++◌}
-use Prim.Native.Nat.{◌+◌, ◌-◌, ◌≤◌}
+use mathlib.Core.Path.{refl, sym, ◌∙◌}
 use native.Mathlib.Omega.{arith}
-use lib.ListN.{length, take, drop, length-set}
+use lib.ListN.{length-set}
 use lib.Ieee.{nan}
 use Rattle.number.specs.F64.{◌‼◌}
 use Rattle.number.proofs.Lists.{left_none, front_turn, front_end}

@@ -1,13 +1,8 @@
 -- `push` meets its contract: what is done, and then the rest pushed on, is the whole. Assumes nothing.
-use borrow.Author.Rules.{rules}
-use mathlib.Core.Path.{◌≡◌, refl, sym, ◌∙◌}
+use mathlib.Core.Path.{◌≡◌}
 use mathlib.Core.List.{◌++◌}
 use Prim.Native.Nat.{◌+◌, ◌-◌, ◌≤◌}
-use native.Mathlib.Omega.{arith}
-use lib.ListN.{length, take, drop, length-set}
-use lib.Ieee.{nan}
-use Rattle.number.specs.F64.{◌‼◌}
-use Rattle.number.proofs.Lists.{left_none, front_turn, front_end}
+use lib.ListN.{length, take, drop}
 use Rattle.mglsa.specs.Mglsa.{pushed}
 use Rattle.mglsa.proofs.push.Given as goal
 

@@ -1,5 +1,4 @@
 -- `stage` meets its contract: a row lies within the taps. Assumes nothing.
-use borrow.Author.Rules.{rules}
 use Rattle.mglsa.proofs.MglsaLaws.{stage_of_lem}
 use Rattle.mglsa.proofs.stage.Goals as goal
 

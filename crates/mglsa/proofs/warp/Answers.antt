@@ -1,10 +1,9 @@
 -- `warp` meets its contract: the taps that are left make of the row here what all of them make of it at the start. Assumes nothing.
-use borrow.Author.Rules.{rules}
 use mathlib.Core.Path.{◌≡◌, refl, sym, ap, ◌∙◌}
-use Prim.Native.Nat.{◌+◌, ◌-◌, ◌≤◌}
+use Prim.Native.Nat.{◌+◌, ◌-◌}
 use native.Mathlib.Omega.{arith}
 use lib.ListN.{length}
-use Rattle.mglsa.specs.Mglsa.{passed, warps, warped}
+use Rattle.mglsa.specs.Mglsa.{warps, warped}
 use Rattle.mglsa.proofs.MglsaLaws.{warp_turn, warp_end}
 use Rattle.mglsa.proofs.warp.Goals as goal
 

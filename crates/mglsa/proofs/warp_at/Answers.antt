@@ -1,5 +1,4 @@
 -- `warp_at` meets its contract. Assumes nothing.
-use borrow.Author.Rules.{rules}
 use mathlib.Core.Path.{refl}
 use Rattle.mglsa.specs.Mglsa.{warp_at}
 use Rattle.mglsa.proofs.warp_at.Goals as goal

@@ -9,7 +9,6 @@ use Rattle.noise.specs.declared.Filling.{Filling}
 use Rattle.noise.specs.Draw.{tries}
 use Rattle.noise.specs.Gathering.{Gathers}
 use Rattle.noise.proofs.GatherLaws.{pairs_length, gathered_all}
-use borrow.Author.Rules.{rules}
 use Rattle.noise.proofs.fill_queue.Goals as goal
 
 pub weigh-requires : goal.weigh-requires

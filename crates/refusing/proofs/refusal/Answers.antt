@@ -1,12 +1,11 @@
 -- `refusal` meets its contract: each test in the order of the table. Assumes nothing.
-use borrow.Author.Rules.{rules}
 use mathlib.Core.Path.{◌≡◌, refl, sym, ◌∙◌}
 use mathlib.Core.Bool.{true}
 use Prim.Native.Nat.{◌+◌, ◌≤◌, ◌<◌}
 use native.Mathlib.Omega.{arith}
 use lib.Dec.{eqb}
 use lib.ListN.{length}
-use borrow.Author.Tests.{not-true, not-false, eq-eqb, ne_eqb, lt-ltb, le-ltb}
+use borrow.Author.Tests.{eq-eqb, ne_eqb, lt-ltb, le-ltb}
 use Rattle.configuration.proofs.LimitsLaws.{sizes}
 use Rattle.voice.specs.Voice.{acceptable, idle, most_meter}
 use Rattle.voice.proofs.IdleLaws.{kept_of}

@@ -1,8 +1,6 @@
 -- `read_records` meets its contract: the tests of the slots that were read. Assumes nothing.
-use borrow.Author.Rules.{rules}
 use mathlib.Core.Path.{sym, ◌∙◌, ap}
 use lib.ListN.{length}
-use borrow.Author.Tests.{not-true, not-false}
 use Rattle.number.proofs.Floats.{both_second}
 use Rattle.slots.specs.Slots.{voice_in}
 use Rattle.rest.proofs.RestLaws.{read_tests, slots_read, restores_refused, restores_done}

@@ -1,10 +1,8 @@
 -- `save` meets its contract. Assumes nothing.
-use borrow.Author.Rules.{rules}
 use mathlib.Core.Path.{◌≡◌, sym, ◌∙◌}
 use Prim.Native.Nat.{◌*◌, ◌≤◌, ◌<◌}
 use native.Mathlib.Omega.{arith}
 use lib.ListN.{length}
-use borrow.Author.Tests.{not-true, not-false}
 use Rattle.number.specs.Lists.{row}
 use Rattle.voice.specs.Voice.{acceptable}
 use mathlib.Core.Bool.{true}

@@ -1,5 +1,4 @@
 -- `at_rest` meets its contract. Assumes nothing.
-use borrow.Author.Rules.{rules}
 use mathlib.Core.Path.{refl}
 use Rattle.voice.specs.Voice.{at_rest}
 use Rattle.voice.proofs.at_rest.Goals as goal

@@ -1,5 +1,4 @@
 -- `open` meets its contract. Assumes nothing.
-use borrow.Author.Rules.{rules}
 use mathlib.Core.Path.{refl, sym, ◌∙◌}
 use Rattle.voice.proofs.open.Goals as goal
 

@@ -1,9 +1,8 @@
 -- `usable` meets its contract. Assumes nothing.
-use borrow.Author.Rules.{rules}
 use mathlib.Core.Path.{refl, sym, ◌∙◌}
 use native.Mathlib.Omega.{arith}
 use Prim.Native.Nat.{◌+◌, ◌≤◌, ◌<◌}
-use borrow.Author.Tests.{not-true, not-false, lt-leb, le-leb}
+use borrow.Author.Tests.{lt-leb, le-leb}
 use Rattle.configuration.proofs.LimitsLaws.{sizes}
 use Rattle.voice.specs.Voice.{most_meter, acceptable}
 use Rattle.voice.proofs.usable.Goals as goal

@@ -1,9 +1,8 @@
 -- `refusal` meets its contract. Assumes nothing.
-use borrow.Author.Rules.{rules}
 use mathlib.Core.Path.{refl, sym, ◌∙◌}
 use Prim.Native.Nat.{◌-◌, ◌<◌, ◌≤◌}
 use native.Mathlib.Omega.{arith}
-use borrow.Author.Tests.{not-true, not-false, lt-ltb, le-ltb}
+use borrow.Author.Tests.{lt-ltb, le-ltb}
 use Rattle.configuration.proofs.LimitsLaws.{sizes}
 use Rattle.voice.specs.Voice.{idle}
 use Rattle.voice.proofs.IdleLaws.{kept_of}

@@ -1,5 +1,4 @@
 -- `whole_frame` meets its contract. Assumes nothing.
-use borrow.Author.Rules.{rules}
 use mathlib.Core.Path.{sym, ◌∙◌}
 use Rattle.refusing.specs.Refusal.{frame}
 use Rattle.whole.proofs.WholeLaws.{renders_short, renders_refused, renders_drawn}

@@ -5,7 +5,6 @@ use borrow.Author.Tests.{eq-eqb, ne_eqb}
 use Rattle.noise.specs.Draw.{tries}
 use Rattle.excitation.specs.Excitation.{excitation}
 use Rattle.excitation.proofs.GetLaws.{step_plain, step_mixed}
-use borrow.Author.Rules.{rules}
 use Rattle.excitation.proofs.get.get.Goals as goal
 
 pub returns-then-line-eq0 : goal.returns-then-line-eq0

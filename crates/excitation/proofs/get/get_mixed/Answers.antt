@@ -7,7 +7,6 @@ use Rattle.noise.specs.Draw.{tries}
 use Rattle.noise.specs.Noise.{taken_of}
 use Rattle.excitation.specs.Excitation.{excitation}
 use Rattle.excitation.proofs.GetLaws.{mixed_made, mixed_dry}
-use borrow.Author.Rules.{rules}
 use Rattle.excitation.proofs.get.get_mixed.Goals as goal
 
 pub returns-in-Value : goal.returns-in-Value

@@ -9,7 +9,6 @@ use Rattle.pulse.specs.declared.Pulsed.{Pulsed}
 use Rattle.excitation.specs.declared.Sample.TheVariants.{Made}
 use Rattle.excitation.specs.Excitation.{excitation, sampled_of}
 use Rattle.excitation.proofs.GetLaws.{plain_pulse, plain_noise, plain_dry}
-use borrow.Author.Rules.{rules}
 use Rattle.excitation.proofs.get.get_plain.Goals as goal
 
 pub returns-then-pulse : goal.returns-then-pulse

@@ -5,7 +5,6 @@ use native.Mathlib.Omega.{arith}
 use Rattle.delay.specs.Line.{shifted}
 use Rattle.excitation.specs.declared.Sample.{Sample}
 use Rattle.excitation.specs.Excitation.{sampled_of}
-use borrow.Author.Rules.{rules}
 use Rattle.excitation.proofs.get.get_shifted.Goals as goal
 
 pub returns-in-Made : goal.returns-in-Made

@@ -1,6 +1,5 @@
 -- `mix` meets its contract: what its steps answer, put together. Assumes nothing.
 use Rattle.excitation.proofs.GetLaws.{mix_voiced, mix_unvoiced}
-use borrow.Author.Rules.{rules}
 use Rattle.excitation.proofs.get.mix.Goals as goal
 
 pub returns-then-pulse : goal.returns-then-pulse

@@ -5,9 +5,9 @@ use native.Mathlib.Omega.{arith}
 use lib.ListN.{length}
 use Rattle.number.specs.Lists.{row}
 use Rattle.number.proofs.Lists.{length_row, length_put_row}
-use Rattle.history.proofs.StepLaws.{Reached, reached_none, reached_end}
+use Rattle.history.proofs.StepLaws.{reached_none, reached_end}
 use Rattle.noise.specs.Draw.{tries}
-use Rattle.excitation.specs.Excitation.{excitation, step_of}
+use Rattle.excitation.specs.Excitation.{step_of}
 use Rattle.excitation.proofs.PieceLaws.{few, piece_full, piece_dry}
 use borrow.Author.Rules.{rules}
 use Rattle.excitation.proofs.window.by_pieces.Goals as goal

@@ -1,15 +1,10 @@
 -- `by_pieces` meets its contract: after each piece the state is that after the samples that stand in `out`. Assumes nothing.
-use mathlib.Core.Path.{◌≡◌, refl, ◌∙◌}
-use Prim.Native.Nat.{◌+◌, ◌-◌, ◌≤◌}
-use native.Mathlib.Omega.{arith}
+use mathlib.Core.Path.{◌≡◌}
+use Prim.Native.Nat.{◌-◌, ◌≤◌}
 use lib.ListN.{length}
-use Rattle.number.specs.Lists.{row}
-use Rattle.number.proofs.Lists.{length_row, length_put_row}
-use Rattle.history.proofs.StepLaws.{Reached, reached_none, reached_end}
+use Rattle.history.proofs.StepLaws.{Reached}
 use Rattle.noise.specs.Draw.{tries}
 use Rattle.excitation.specs.Excitation.{excitation, step_of}
-use Rattle.excitation.proofs.PieceLaws.{few, piece_full, piece_dry}
-use borrow.Author.Rules.{rules}
 use Rattle.excitation.proofs.window.by_pieces.Given as goal
 
 abbrev pub invariant-loop-i : goal.invariant-loop-i

@@ -5,7 +5,6 @@ use native.Mathlib.Omega.{arith}
 use lib.ListN.{length}
 use Rattle.excitation.proofs.WindowLaws.{lent_line, front_length, front_line, front_zeros, other_lines}
 use Rattle.excitation.proofs.PieceLaws.{few}
-use borrow.Author.Rules.{rules}
 use Rattle.excitation.proofs.window.in_window.Goals as goal
 use Rattle.excitation.proofs.window.in_window.Goals.{After-slice_known-6-1}
 

@@ -1,17 +1,15 @@
 -- `slide` meets its contract: after i turns the state is that after i samples, its line standing at i, with only zeros past it. Assumes nothing.
 use mathlib.Core.Path.{◌≡◌, refl, sym, ap, ◌∙◌}
-use Prim.Native.Nat.{◌+◌, ◌-◌, ◌≤◌, ◌<◌}
+use Prim.Native.Nat.{◌+◌, ◌<◌}
 use native.Mathlib.Omega.{arith}
 use lib.ListN.{length, length-set}
 use Rattle.number.proofs.Lists.{length_put_row}
-use Rattle.history.proofs.StepLaws.{Reached, reached_none, reached_more, reached_end, reached_dry}
+use Rattle.history.proofs.StepLaws.{reached_none, reached_more, reached_end, reached_dry}
 use Rattle.noise.specs.Draw.{tries}
 use Rattle.delay.specs.Line.{shifted}
 use Rattle.excitation.specs.declared.Sample.{Sample}
-use Rattle.excitation.specs.Excitation.{excitation, step_of, sampled_of}
-use Rattle.excitation.specs.Window.{line_at, ZeroFrom}
+use Rattle.excitation.specs.Excitation.{step_of, sampled_of}
 use Rattle.excitation.proofs.WindowLaws.{lent_whole, same_window, zeros_on, window_made, window_dry}
-use borrow.Author.Rules.{rules}
 use Rattle.excitation.proofs.window.slide.Goals as goal
 
 pub loop-i-init : goal.loop-i-init

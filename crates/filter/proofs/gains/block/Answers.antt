@@ -1,5 +1,4 @@
 -- `block` meets its contract: the parts of each exp, and then the samples. Assumes nothing.
-use borrow.Author.Rules.{rules}
 use Rattle.filter.proofs.gains.block.Goals as goal
 
 pub returns : goal.returns

@@ -1,5 +1,4 @@
 -- `gain` meets its contract. Assumes nothing.
-use borrow.Author.Rules.{rules}
 use mathlib.Core.Path.{◌∙◌}
 use Rattle.filter.proofs.GainLaws.{gained_loud, gained_still}
 use Rattle.filter.proofs.gains.gain.Goals as goal

@@ -1,13 +1,11 @@
 -- `gains` meets its contract: the samples that are left, from c0 here on, come to what all of them come to from the start. Assumes nothing.
-use borrow.Author.Rules.{rules}
-use mathlib.Core.Path.{◌≡◌, refl, sym, ap, ◌∙◌}
-use mathlib.Core.Logic.{⊎_elim}
-use Prim.Native.Nat.{◌+◌, ◌-◌, ◌≤◌}
+use mathlib.Core.Path.{refl, sym, ap, ◌∙◌}
+use Prim.Native.Nat.{◌+◌, ◌≤◌}
 use native.Mathlib.Omega.{arith}
 use lib.ListN.{length, length-take, length-drop}
 use lib.Ieee.{Float}
-use Rattle.history.specs.Through.{Passage, through}
-use Rattle.history.proofs.ThroughLaws.{from_here, through_all, through_block, length_block, through_end}
+use Rattle.history.specs.Through.{Passage}
+use Rattle.history.proofs.ThroughLaws.{through_all, through_block, length_block, through_end}
 use Rattle.filter.specs.Zero.{gain_of}
 use Rattle.filter.proofs.gains.gains.Goals as goal
 use Rattle.filter.proofs.gains.gains.Goals.{Joined-left-lt128, then-left-lt128, else-left-lt128}

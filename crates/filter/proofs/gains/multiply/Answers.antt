@@ -1,13 +1,11 @@
 -- `multiply` meets its contract: the samples that are left, from c0 here on, come to what all of them come to from the start. Assumes nothing.
-use borrow.Author.Rules.{rules}
 use mathlib.Core.Path.{◌≡◌, refl, sym, ap, ◌∙◌}
-use Prim.Native.Nat.{ℕ, ◌-◌, ◌≤◌}
+use Prim.Native.Nat.{ℕ}
 use native.Mathlib.Omega.{arith}
 use lib.ListN.{length, length-set}
-use lib.Ieee.{Float}
-use Rattle.history.specs.Through.{passage, through}
-use Rattle.history.proofs.ThroughLaws.{from_here, through_all, through_end}
-use Rattle.filter.specs.Zero.{gain_of, on_by, Prepared}
+use Rattle.history.specs.Through.{passage}
+use Rattle.history.proofs.ThroughLaws.{through_all, through_end}
+use Rattle.filter.specs.Zero.{gain_of, on_by}
 use Rattle.filter.proofs.GainLaws.{gain_turn}
 use Rattle.filter.proofs.gains.multiply.Goals as goal
 

@@ -1,14 +1,11 @@
 -- `multiply` meets its contract: the samples that are left, from c0 here on, come to what all of them come to from the start. Assumes nothing.
-use borrow.Author.Rules.{rules}
-use mathlib.Core.Path.{◌≡◌, refl, sym, ap, ◌∙◌}
-use Prim.Native.Nat.{ℕ, ◌-◌, ◌≤◌}
-use native.Mathlib.Omega.{arith}
-use lib.ListN.{length, length-set}
+use mathlib.Core.Path.{◌≡◌}
+use Prim.Native.Nat.{◌-◌, ◌≤◌}
+use lib.ListN.{length}
 use lib.Ieee.{Float}
-use Rattle.history.specs.Through.{passage, through}
-use Rattle.history.proofs.ThroughLaws.{from_here, through_all, through_end}
+use Rattle.history.specs.Through.{through}
+use Rattle.history.proofs.ThroughLaws.{from_here}
 use Rattle.filter.specs.Zero.{gain_of, on_by, Prepared}
-use Rattle.filter.proofs.GainLaws.{gain_turn}
 use Rattle.filter.proofs.gains.multiply.Given as goal
 
 abbrev pub invariant-loop-i : goal.invariant-loop-i

@@ -1,13 +1,8 @@
 -- `prepare` meets its contract. Assumes nothing.
-use borrow.Author.Rules.{rules}
-use mathlib.Core.Path.{◌≡◌, refl, sym, ap, ◌∙◌, subst}
-use Prim.Native.Nat.{ℕ, ◌-◌, ◌≤◌}
-use native.Mathlib.Omega.{arith}
-use lib.ListN.{length, length-set}
-use lib.Ieee.{Float}
-use Rattle.number.specs.F64.{◌⊕◌}
+use mathlib.Core.Path.{◌≡◌}
+use Prim.Native.Nat.{◌-◌, ◌≤◌}
+use lib.ListN.{length}
 use Rattle.filter.specs.Zero.{on_by, Prepared}
-use Rattle.filter.proofs.GainLaws.{on_next, prepared_more}
 use Rattle.filter.proofs.gains.prepare.Given as goal
 
 abbrev pub invariant-loop-i : goal.invariant-loop-i

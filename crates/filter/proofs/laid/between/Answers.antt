@@ -1,5 +1,4 @@
 -- `between` meets its contract: what the samples come to on the rows as they are laid is what they come to on the rows as they were. Assumes nothing.
-use borrow.Author.Rules.{rules}
 use mathlib.Core.Path.{◌≡◌}
 use native.Mathlib.Omega.{arith}
 use lib.ListN.{length}

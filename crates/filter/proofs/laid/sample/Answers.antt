@@ -1,5 +1,4 @@
 -- `sample` meets its contract: filter, coefficients and volume, each as its call says. Assumes nothing.
-use borrow.Author.Rules.{rules}
 use mathlib.Core.Path.{refl}
 use Rattle.filter.proofs.FilterLaws.{sample_of_lem}
 use Rattle.filter.proofs.laid.sample.Goals as goal

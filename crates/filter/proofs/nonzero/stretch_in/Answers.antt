@@ -1,14 +1,9 @@
 -- `stretch_in` meets its contract: the samples that are left, from the state here on, come to what all of them come to from the start. Assumes nothing.
-use borrow.Author.Rules.{rules}
-use mathlib.Core.Path.{◌≡◌, refl, sym, ◌∙◌}
-use Prim.Native.Nat.{◌-◌, ◌≤◌}
+use mathlib.Core.Path.{refl, sym, ◌∙◌}
 use native.Mathlib.Omega.{arith}
-use lib.ListN.{length, length-set}
+use lib.ListN.{length-set}
 use lib.Ieee.{nan}
-use Rattle.history.specs.Through.{through}
-use Rattle.history.proofs.ThroughLaws.{from_here, through_all, through_turn, through_end}
-use Rattle.filter.specs.Sample.{state}
-use Rattle.filter.specs.NonZero.{sample_of}
+use Rattle.history.proofs.ThroughLaws.{through_all, through_turn, through_end}
 use Rattle.filter.proofs.nonzero.stretch_in.Goals as goal
 
 pub loop-i-init : goal.loop-i-init

@@ -1,5 +1,4 @@
 -- `stretch` meets its contract: the half before the middle, and then the other. Assumes nothing.
-use borrow.Author.Rules.{rules}
 use native.Mathlib.Omega.{arith}
 use Rattle.history.proofs.ThroughLaws.{through_parts}
 use Rattle.filter.specs.Zero.{sample_of}

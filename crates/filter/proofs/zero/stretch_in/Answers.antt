@@ -1,5 +1,4 @@
 -- `stretch_in` meets its contract: the gains of all samples, and then the rest. Assumes nothing.
-use borrow.Author.Rules.{rules}
 use mathlib.Core.Path.{ap, ◌∙◌}
 use native.Mathlib.Omega.{arith}
 use Rattle.history.specs.Through.{through}

@@ -1,5 +1,4 @@
 -- `begin` meets its contract: outside or inside as preparing is. Assumes nothing.
-use borrow.Author.Rules.{rules}
 use mathlib.Core.Path.{refl, sym, ◌∙◌}
 use Rattle.elementary.proofs.OutcomeLaws.{is_outside}
 use Rattle.giving.specs.Begin.{prepared_for}

@@ -1,5 +1,4 @@
 -- `coefficients` meets its contract. Assumes nothing.
-use borrow.Author.Rules.{rules}
 use borrow.Author.Tests.{eq-eqb, ne_eqb}
 use Rattle.giving.specs.Begin.{prepared_for}
 use Rattle.giving.proofs.begin.coefficients.Goals as goal

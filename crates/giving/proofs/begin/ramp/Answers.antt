@@ -1,13 +1,12 @@
 -- `ramp` meets its contract: the first i increments are made. Assumes nothing.
-use borrow.Author.Rules.{rules}
-use mathlib.Core.Path.{◌≡◌, refl, ◌∙◌}
-use Prim.Native.Nat.{◌-◌, ◌≤◌, ◌^◌}
+use mathlib.Core.Path.{refl, ◌∙◌}
+use Prim.Native.Nat.{◌^◌}
 use native.Mathlib.Omega.{arith}
 use lib.Dec.{le→leb}
 use lib.Ieee.{nan, in_float}
-use lib.ListN.{length, take, length-set}
+use lib.ListN.{take, length-set}
 use lib.Seq.{take_all}
-use Rattle.number.proofs.Lists.{over, over_known, over_end}
+use Rattle.number.proofs.Lists.{over_known, over_end}
 use Rattle.giving.specs.Begin.{increments_of}
 use Rattle.giving.proofs.BeginLaws.{increment_at, length_increments}
 use Rattle.giving.proofs.begin.ramp.Goals as goal

@@ -1,15 +1,9 @@
 -- `ramp` meets its contract: the first i increments are made. Assumes nothing.
-use borrow.Author.Rules.{rules}
-use mathlib.Core.Path.{◌≡◌, refl, ◌∙◌}
-use Prim.Native.Nat.{◌-◌, ◌≤◌, ◌^◌}
-use native.Mathlib.Omega.{arith}
-use lib.Dec.{le→leb}
-use lib.Ieee.{nan, in_float}
-use lib.ListN.{length, take, length-set}
-use lib.Seq.{take_all}
-use Rattle.number.proofs.Lists.{over, over_known, over_end}
+use mathlib.Core.Path.{◌≡◌}
+use Prim.Native.Nat.{◌-◌, ◌≤◌}
+use lib.ListN.{length, take}
+use Rattle.number.proofs.Lists.{over}
 use Rattle.giving.specs.Begin.{increments_of}
-use Rattle.giving.proofs.BeginLaws.{increment_at, length_increments}
 use Rattle.giving.proofs.begin.ramp.Given as goal
 
 abbrev pub invariant-loop-i : goal.invariant-loop-i

@@ -1,5 +1,4 @@
 -- `dff_both` meets its contract: each row by its taps, its sum and the stores after the loop. Assumes nothing.
-use borrow.Author.Rules.{rules}
 use native.Mathlib.Omega.{arith}
 use lib.ListN.{length-set}
 use Rattle.mglsa.proofs.PairLaws.{both_made}

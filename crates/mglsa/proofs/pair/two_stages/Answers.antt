@@ -1,5 +1,4 @@
 -- `two_stages` meets its contract: the two rows lie side by side. Assumes nothing.
-use borrow.Author.Rules.{rules}
 use Rattle.mglsa.proofs.PairLaws.{two_stages_of}
 use Rattle.mglsa.proofs.pair.two_stages.Goals as goal
 

@@ -1,17 +1,10 @@
 -- `warp_both` meets its contract: the taps that are left make of either row here what all of them make of it at the start. Assumes nothing.
-use borrow.Author.Rules.{rules}
-use mathlib.Core.Path.{◌≡◌, refl, sym, ap, ◌∙◌}
-use mathlib.Core.List.{List}
-use Prim.Native.Nat.{ℕ, ◌+◌, ◌-◌, ◌≤◌}
-use native.Mathlib.Omega.{arith}
+use mathlib.Core.Path.{◌≡◌}
+use Prim.Native.Nat.{◌+◌, ◌-◌, ◌≤◌}
 use lib.ListN.{length, take, drop}
-use lib.Ieee.{Float}
-use Rattle.number.specs.F64.{◌⊗◌, ◌‼◌}
-use Rattle.mglsa.specs.declared.pair.Both.{Both}
+use Rattle.number.specs.F64.{◌‼◌}
 use Rattle.mglsa.specs.Mglsa.{passed, warps}
 use Rattle.mglsa.specs.Pair.{standing}
-use Rattle.mglsa.proofs.MglsaLaws.{warp_turn, warp_end}
-use Rattle.mglsa.proofs.PairLaws.{warped_start, first_length, second_length, first_tap, second_tap, first_start, second_start}
 use Rattle.mglsa.proofs.pair.warp_both.Given as goal
 
 abbrev pub invariant-loop-i : goal.invariant-loop-i

@@ -1,5 +1,4 @@
 -- `warp_both_at` meets its contract: a store in either row leaves the other as it was. Assumes nothing.
-use borrow.Author.Rules.{rules}
 use native.Mathlib.Omega.{arith}
 use lib.ListN.{length-set}
 use Rattle.mglsa.proofs.PairLaws.{warped_both}

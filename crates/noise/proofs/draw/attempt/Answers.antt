@@ -1,6 +1,5 @@
 -- `attempt` meets its contract. Assumes nothing.
 use mathlib.Core.Path.{refl}
-use borrow.Author.Rules.{rules}
 use Rattle.noise.specs.Draw.{try_of}
 use Rattle.noise.proofs.draw.attempt.Goals as goal
 

@@ -1,9 +1,7 @@
 -- `estimate` stays within its lists, and ends. Assumes nothing.
-use mathlib.Core.Path.{◌≡◌, ◌∙◌}
+use mathlib.Core.Path.{◌≡◌}
 use Prim.Native.Nat.{◌-◌, ◌≤◌}
-use native.Mathlib.Omega.{arith}
-use lib.ListN.{length, length-set}
-use borrow.Author.Rules.{rules}
+use lib.ListN.{length}
 use Rattle.noise.proofs.gather.estimate.Given as goal
 
 abbrev pub invariant-loop-k : goal.invariant-loop-k

@@ -1,14 +1,13 @@
 -- `find_pairs` meets its contract: after i turns the first i pairs are gathered. Assumes nothing.
 use mathlib.Core.Path.{◌≡◌, sym, ◌∙◌, subst}
-use Prim.Native.Nat.{ℕ, ◌-◌, ◌≤◌}
+use Prim.Native.Nat.{ℕ}
 use native.Mathlib.Omega.{arith}
-use lib.ListN.{length, length-set}
+use lib.ListN.{length-set}
 use Rattle.noise.specs.declared.pair.Found.TheVariants as found
 use Rattle.noise.specs.Draw.{tries}
 use Rattle.noise.specs.Noise.{found_of}
 use Rattle.noise.specs.Gathering.{Gathered}
 use Rattle.noise.proofs.GatherLaws.{gathered_none, gathered_more, gathered_dry}
-use borrow.Author.Rules.{rules}
 use Rattle.noise.proofs.gather.find_pairs.Goals as goal
 
 pub loop-i-init : goal.loop-i-init

@@ -1,14 +1,9 @@
 -- `find_pairs` meets its contract: after i turns the first i pairs are gathered. Assumes nothing.
-use mathlib.Core.Path.{◌≡◌, sym, ◌∙◌, subst}
-use Prim.Native.Nat.{ℕ, ◌-◌, ◌≤◌}
-use native.Mathlib.Omega.{arith}
-use lib.ListN.{length, length-set}
-use Rattle.noise.specs.declared.pair.Found.TheVariants as found
+use mathlib.Core.Path.{◌≡◌}
+use Prim.Native.Nat.{◌-◌, ◌≤◌}
+use lib.ListN.{length}
 use Rattle.noise.specs.Draw.{tries}
-use Rattle.noise.specs.Noise.{found_of}
 use Rattle.noise.specs.Gathering.{Gathered}
-use Rattle.noise.proofs.GatherLaws.{gathered_none, gathered_more, gathered_dry}
-use borrow.Author.Rules.{rules}
 use Rattle.noise.proofs.gather.find_pairs.Given as goal
 
 abbrev pub invariant-loop-i : goal.invariant-loop-i

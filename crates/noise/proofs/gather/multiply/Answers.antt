@@ -1,14 +1,11 @@
 -- `multiply` meets its contract: the values of the first k pairs stand in the queue. Assumes nothing.
 use mathlib.Core.Path.{◌≡◌, ◌∙◌}
-use Prim.Native.Nat.{◌+◌, ◌*◌, ◌-◌, ◌≤◌}
+use Prim.Native.Nat.{◌+◌, ◌*◌}
 use native.Mathlib.Omega.{arith}
-use lib.ListN.{length, set, length-set}
+use lib.ListN.{set, length-set}
 use Rattle.number.specs.F64.{◌‼◌}
-use Rattle.number.specs.Lists.{over}
 use Rattle.root.specs.Root.{root_of}
-use Rattle.noise.specs.Gathering.{pairs_of}
 use Rattle.noise.proofs.GatherLaws.{multiplied_none, multiplied_more, multiplied_all}
-use borrow.Author.Rules.{rules}
 use Rattle.noise.proofs.gather.multiply.Goals as goal
 
 pub loop-k-init : goal.loop-k-init

@@ -1,12 +1,8 @@
 -- `weigh` meets its contract: below k the weights are made. Assumes nothing.
-use mathlib.Core.Path.{◌≡◌, ◌∙◌}
-use Prim.Native.Nat.{ℕ, ◌-◌, ◌≤◌, ◌<◌}
+use mathlib.Core.Path.{◌∙◌}
 use native.Mathlib.Omega.{arith}
-use lib.ListN.{length, length-set}
-use Rattle.number.specs.F64.{◌‼◌}
-use Rattle.noise.specs.Gathering.{weight_of}
+use lib.ListN.{length-set}
 use Rattle.noise.proofs.GatherLaws.{weighed_more}
-use borrow.Author.Rules.{rules}
 use Rattle.noise.proofs.gather.weigh.Goals as goal
 
 pub loop-k-init : goal.loop-k-init

@@ -1,12 +1,9 @@
 -- `weigh` meets its contract: below k the weights are made. Assumes nothing.
-use mathlib.Core.Path.{◌≡◌, ◌∙◌}
+use mathlib.Core.Path.{◌≡◌}
 use Prim.Native.Nat.{ℕ, ◌-◌, ◌≤◌, ◌<◌}
-use native.Mathlib.Omega.{arith}
-use lib.ListN.{length, length-set}
+use lib.ListN.{length}
 use Rattle.number.specs.F64.{◌‼◌}
 use Rattle.noise.specs.Gathering.{weight_of}
-use Rattle.noise.proofs.GatherLaws.{weighed_more}
-use borrow.Author.Rules.{rules}
 use Rattle.noise.proofs.gather.weigh.Given as goal
 
 abbrev pub invariant-loop-k : goal.invariant-loop-k

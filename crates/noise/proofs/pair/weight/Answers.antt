@@ -1,6 +1,5 @@
 -- `weight` meets its contract. Assumes nothing.
 use mathlib.Core.Path.{◌≡◌, refl, ap}
-use borrow.Author.Rules.{rules}
 use lib.Ieee.{Float}
 use Rattle.elementary.specs.Band.{number_of}
 use Rattle.elementary.specs.declared.answer.Answer.TheVariants.{Inside}

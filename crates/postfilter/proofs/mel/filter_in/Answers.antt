@@ -4,7 +4,6 @@ use native.Mathlib.Omega.{arith}
 use lib.ListN.{length, length-set}
 use Rattle.postfilter.specs.Mel.{sharpened_of}
 use Rattle.postfilter.proofs.PostfilterLaws.{mcp_outside, mcp_inside}
-use borrow.Author.Rules.{rules}
 use Rattle.postfilter.proofs.mel.filter_in.Goals as goal
 
 pub copy-requires : goal.copy-requires

@@ -1,10 +1,8 @@
 -- `postfilter_mcp` meets its contract. Assumes nothing.
 use mathlib.Core.Path.{refl, sym, ◌∙◌}
 use native.Mathlib.Omega.{arith}
-use borrow.Author.Tests.{not-true, not-false}
 use lib.ListN.{length}
 use Rattle.postfilter.proofs.PostfilterLaws.{acts_long, mcp_acts, mcp_rests}
-use borrow.Author.Rules.{rules}
 use Rattle.postfilter.proofs.mel.postfilter_mcp.Goals as goal
 
 pub returns-then-not-acting : goal.returns-then-not-acting

@@ -1,7 +1,6 @@
 -- `sharpen` meets its contract. Assumes nothing.
 use lib.ListN.{length-set}
 use Rattle.postfilter.specs.Mel.{sharpened_of}
-use borrow.Author.Rules.{rules}
 use Rattle.postfilter.proofs.mel.sharpen.Goals as goal
 
 pub shape_of-b : goal.shape_of-b

@@ -5,7 +5,6 @@ use native.Mathlib.Omega.{arith}
 use lib.ListN.{length}
 use Rattle.postfilter.specs.Pairs.{spread_entry}
 use Rattle.postfilter.proofs.PostfilterLaws.{moves_between}
-use borrow.Author.Rules.{rules}
 use Rattle.postfilter.proofs.pairs.entry.Goals as goal
 use Rattle.postfilter.proofs.pairs.entry.Goals.{Then-moves}
 

@@ -7,7 +7,6 @@ use Rattle.number.specs.F64.{◌‼◌}
 use Rattle.lsp.specs.Lsp.{lsp2en_of}
 use Rattle.postfilter.specs.Pairs.{levelled}
 use Rattle.postfilter.proofs.PostfilterLaws.{lsp_outside_before, lsp_outside_after, lsp_outside_level, lsp_inside}
-use borrow.Author.Rules.{rules}
 use Rattle.postfilter.proofs.pairs.filter_in.Goals as goal
 
 pub returns-in_default : goal.returns-in_default

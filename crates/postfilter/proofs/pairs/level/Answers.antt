@@ -1,12 +1,10 @@
 -- `level` meets its contract. Assumes nothing.
 use mathlib.Core.Path.{refl, ap}
 use mathlib.Core.Bool.{not}
-use borrow.Author.Tests.{not-true, not-false}
 use lib.Ieee.{Float, ne}
 use Rattle.number.specs.F64.{◌⊗◌}
 use Rattle.elementary.specs.declared.answer.Answer.TheVariants.{Inside}
 use Rattle.postfilter.proofs.PostfilterLaws.{level_same, level_root, level_outside, level_log}
-use borrow.Author.Rules.{rules}
 use Rattle.postfilter.proofs.pairs.level.Goals as goal
 
 pub returns-then-en1-en2 : goal.returns-then-en1-en2

@@ -1,7 +1,6 @@
 -- `moves` meets its contract. Assumes nothing.
 use borrow.Author.Tests.{lt-ltb, le-ltb}
 use mathlib.Core.Path.{refl}
-use borrow.Author.Rules.{rules}
 use Rattle.postfilter.proofs.pairs.moves.Goals as goal
 
 pub returns-then-i-gt1 : goal.returns-then-i-gt1

@@ -1,10 +1,8 @@
 -- `postfilter_lsp` meets its contract. Assumes nothing.
 use mathlib.Core.Path.{refl, sym, ◌∙◌}
 use native.Mathlib.Omega.{arith}
-use borrow.Author.Tests.{not-true, not-false}
 use lib.ListN.{length}
 use Rattle.postfilter.proofs.PostfilterLaws.{acts_long, lsp_acts, lsp_rests}
-use borrow.Author.Rules.{rules}
 use Rattle.postfilter.proofs.pairs.postfilter_lsp.Goals as goal
 
 pub returns-then-not-acting : goal.returns-then-not-acting

@@ -1,15 +1,12 @@
 -- `spread` meets its contract: the first i entries are made. Assumes nothing.
 use mathlib.Core.Path.{◌≡◌, refl, ap, ◌∙◌}
-use Prim.Native.Nat.{◌-◌, ◌≤◌}
 use native.Mathlib.Omega.{arith}
 use lib.Ieee.{Float}
 use lib.ListN.{length, set, length-set}
-use Rattle.number.specs.Lists.{over}
 use Rattle.number.proofs.Lists.{over_end}
 use Rattle.vectors.specs.Vectors.{grown}
 use Rattle.postfilter.specs.Pairs.{spread_entry, spread_of}
 use Rattle.postfilter.proofs.PostfilterLaws.{spread_turn}
-use borrow.Author.Rules.{rules}
 use Rattle.postfilter.proofs.pairs.spread.Goals as goal
 
 pub loop-i-init : goal.loop-i-init

@@ -1,15 +1,10 @@
 -- `spread` meets its contract: the first i entries are made. Assumes nothing.
-use mathlib.Core.Path.{◌≡◌, refl, ap, ◌∙◌}
+use mathlib.Core.Path.{◌≡◌}
 use Prim.Native.Nat.{◌-◌, ◌≤◌}
-use native.Mathlib.Omega.{arith}
-use lib.Ieee.{Float}
-use lib.ListN.{length, set, length-set}
+use lib.ListN.{length}
 use Rattle.number.specs.Lists.{over}
-use Rattle.number.proofs.Lists.{over_end}
 use Rattle.vectors.specs.Vectors.{grown}
-use Rattle.postfilter.specs.Pairs.{spread_entry, spread_of}
-use Rattle.postfilter.proofs.PostfilterLaws.{spread_turn}
-use borrow.Author.Rules.{rules}
+use Rattle.postfilter.specs.Pairs.{spread_entry}
 use Rattle.postfilter.proofs.pairs.spread.Given as goal
 
 abbrev pub invariant-loop-i : goal.invariant-loop-i

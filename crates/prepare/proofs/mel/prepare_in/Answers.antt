@@ -3,7 +3,6 @@ use mathlib.Core.Path.{refl}
 use Rattle.elementary.proofs.OutcomeLaws.{is_outside, is_inside}
 use Rattle.postfilter.specs.Mel.{postfilter_mcp_of}
 use Rattle.prepare.proofs.PrepareLaws.{mcp_outside, mcp_inside}
-use borrow.Author.Rules.{rules}
 use Rattle.prepare.proofs.mel.prepare_in.Goals as goal
 
 pub returns-in_default : goal.returns-in_default

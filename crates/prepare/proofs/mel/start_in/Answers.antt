@@ -1,6 +1,5 @@
 -- `start_in` meets its contract. Assumes nothing.
 use mathlib.Core.Path.{refl}
-use borrow.Author.Rules.{rules}
 use Rattle.prepare.proofs.mel.start_in.Goals as goal
 
 pub returns-then-first : goal.returns-then-first

@@ -6,7 +6,6 @@ use Rattle.elementary.proofs.OutcomeLaws.{is_outside, is_inside}
 use Rattle.generalized.specs.Generalized.{gnorm_of}
 use Rattle.lsp.specs.Lsp.{lsp2mgc_of}
 use Rattle.prepare.proofs.PrepareLaws.{coefficients_outside, coefficients_outside_norm, coefficients_inside}
-use borrow.Author.Rules.{rules}
 use Rattle.prepare.proofs.pairs.coefficients.Goals as goal
 
 pub returns-in_default : goal.returns-in_default

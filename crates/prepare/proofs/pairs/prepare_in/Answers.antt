@@ -4,7 +4,6 @@ use lib.ListN.{length}
 use Rattle.elementary.proofs.OutcomeLaws.{is_outside}
 use Rattle.prepare.specs.Preparing.{start_if, coefficients_of, targets_lsp}
 use Rattle.prepare.proofs.PrepareLaws.{lsp_outside_start, lsp_outside_targets, lsp_inside}
-use borrow.Author.Rules.{rules}
 use Rattle.prepare.proofs.pairs.prepare_in.Goals as goal
 
 pub returns-in_default : goal.returns-in_default

@@ -1,7 +1,5 @@
 -- `start_in` meets its contract. Assumes nothing.
 use mathlib.Core.Path.{refl}
-use borrow.Author.Tests.{not-true, not-false}
-use borrow.Author.Rules.{rules}
 use Rattle.prepare.proofs.pairs.start_in.Goals as goal
 
 pub returns-then-not-first : goal.returns-then-not-first

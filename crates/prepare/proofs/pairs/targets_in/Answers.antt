@@ -5,7 +5,6 @@ use native.Mathlib.Omega.{arith}
 use Rattle.elementary.proofs.OutcomeLaws.{is_outside, is_inside}
 use Rattle.postfilter.specs.Pairs.{postfilter_lsp_of}
 use Rattle.prepare.proofs.PrepareLaws.{targets_outside, targets_of}
-use borrow.Author.Rules.{rules}
 use Rattle.prepare.proofs.pairs.targets_in.Goals as goal
 
 pub returns-in_default : goal.returns-in_default

@@ -1,7 +1,6 @@
 -- `next` meets its contract. Assumes nothing.
 use mathlib.Core.Path.{refl}
 use Rattle.pulse.specs.Train.{pulse_of}
-use borrow.Author.Rules.{rules}
 use Rattle.pulse.proofs.Pulse.next.Goals as goal
 
 pub returns-then-counter-pitch : goal.returns-then-counter-pitch

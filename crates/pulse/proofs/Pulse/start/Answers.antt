@@ -1,7 +1,6 @@
 -- `start` meets its contract. Assumes nothing.
 use mathlib.Core.Path.{◌≡◌, refl, sym, ap, ◌∙◌}
 use Prim.Native.Nat.{ℕ}
-use mathlib.Core.Logic.{⊎_elim}
 use mathlib.Core.Bool.{true, false, ◌&&◌}
 use lib.IntN.{pos}
 use lib.Ieee.{Float, binary64, of_int}
@@ -10,7 +9,6 @@ use Rattle.number.proofs.Floats.{small_float}
 use Rattle.pulse.specs.declared.Pulse.{Pulse}
 use Rattle.pulse.specs.declared.Pitch.{Pitch}
 use Rattle.pulse.specs.Train.{period_of, voiced, train, start_of}
-use borrow.Author.Rules.{rules}
 use Rattle.pulse.proofs.Pulse.start.Goals as goal
 use Rattle.pulse.proofs.Pulse.start.Goals.{else-self-via-then-self+else-end, else-self-via-else-self}
 

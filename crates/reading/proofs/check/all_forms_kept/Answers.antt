@@ -1,5 +1,4 @@
 -- `all_forms_kept` meets its contract: four parts. Assumes nothing.
-use native.Mathlib.Omega.{arith}
 use mathlib.Core.Path.{◌≡◌, refl, ◌∙◌, ap}
 use lib.ListN.{drop}
 use Rattle.refusing.specs.Refusal.{every}

@@ -1,5 +1,4 @@
 -- `configuration_in` meets its contract: slot by slot. Assumes nothing.
-use native.Mathlib.Omega.{arith}
 use mathlib.Core.Path.{refl}
 use Rattle.slots.specs.Slots.{configuration_in}
 use Rattle.reading.proofs.check.configuration_in.Goals as goal

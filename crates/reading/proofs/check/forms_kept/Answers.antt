@@ -1,10 +1,6 @@
 -- `forms_kept` meets its contract. Assumes nothing.
-use mathlib.Core.Path.{◌≡◌, refl, sym, ◌∙◌}
-use Prim.Native.Nat.{◌-◌, ◌≤◌}
+use mathlib.Core.Path.{refl, sym, ◌∙◌}
 use native.Mathlib.Omega.{arith}
-use borrow.Author.Tests.{not-true, not-false}
-use lib.ListN.{length, drop}
-use Rattle.refusing.specs.Refusal.{every}
 use Rattle.refusing.proofs.EveryLaws.{every_turn, every_fails, every_done}
 use Rattle.slots.specs.Sound.{one_form}
 use Rattle.reading.proofs.check.forms_kept.Goals as goal

@@ -2,7 +2,7 @@
 use mathlib.Core.Path.{◌≡◌, sym, ◌∙◌}
 use native.Mathlib.Omega.{arith}
 use lib.ListN.{length}
-use borrow.Author.Tests.{not-true, not-false, eq-eqb, ne_eqb}
+use borrow.Author.Tests.{eq-eqb, ne_eqb}
 use Rattle.slots.specs.Slots.{count_of}
 use Rattle.reading.proofs.SoundLaws.{Room, room_with, unsound_limits, unsound_count, sound_where}
 use Rattle.reading.proofs.check.is_sound.Goals as goal

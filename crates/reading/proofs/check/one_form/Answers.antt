@@ -1,5 +1,4 @@
 -- `one_form` meets its contract: only another form of the NaN does not come back. Assumes nothing.
-use native.Mathlib.Omega.{arith}
 use Rattle.reading.proofs.ReadLaws.{form_test}
 use Rattle.reading.proofs.check.one_form.Goals as goal
 

@@ -1,5 +1,4 @@
 -- `array_in` meets its contract. Assumes nothing.
-use native.Mathlib.Omega.{arith}
 use Rattle.voice.specs.Voice.{none}
 use Rattle.reading.proofs.ReadLaws.{array_of}
 use Rattle.reading.proofs.read.array_in.Goals as goal

@@ -1,5 +1,4 @@
 -- `pulse_in` meets its contract: slot by slot. Assumes nothing.
-use native.Mathlib.Omega.{arith}
 use mathlib.Core.Path.{refl}
 use Rattle.slots.specs.Slots.{pulse_in}
 use Rattle.reading.proofs.read.pulse_in.Goals as goal

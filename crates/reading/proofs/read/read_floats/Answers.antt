@@ -1,10 +1,9 @@
 -- `read_floats` meets its contract: what is still to be read. Assumes nothing.
 use mathlib.Core.Path.{◌≡◌, refl, ◌∙◌}
-use Prim.Native.Nat.{◌+◌, ◌-◌, ◌≤◌}
+use Prim.Native.Nat.{◌+◌, ◌-◌}
 use native.Mathlib.Omega.{arith}
 use lib.ListN.{length, length-set}
-use lib.Seq.{sets}
-use Rattle.reading.proofs.ReadLaws.{to_read, read_turn, read_done, read_end}
+use Rattle.reading.proofs.ReadLaws.{read_turn, read_done, read_end}
 use Rattle.reading.proofs.read.read_floats.Goals as goal
 
 pub loop-i-init : goal.loop-i-init

@@ -1,10 +1,9 @@
 -- `read_floats` meets its contract: what is still to be read. Assumes nothing.
-use mathlib.Core.Path.{◌≡◌, refl, ◌∙◌}
+use mathlib.Core.Path.{◌≡◌}
 use Prim.Native.Nat.{◌+◌, ◌-◌, ◌≤◌}
-use native.Mathlib.Omega.{arith}
-use lib.ListN.{length, length-set}
+use lib.ListN.{length}
 use lib.Seq.{sets}
-use Rattle.reading.proofs.ReadLaws.{to_read, read_turn, read_done, read_end}
+use Rattle.reading.proofs.ReadLaws.{to_read}
 use Rattle.reading.proofs.read.read_floats.Given as goal
 
 abbrev pub invariant-loop-i : goal.invariant-loop-i

@@ -1,13 +1,8 @@
 -- `all_finite` meets its contract. Assumes nothing.
-use borrow.Author.Rules.{rules}
-use mathlib.Core.Path.{◌≡◌, refl, sym, ◌∙◌}
-use Prim.Native.Nat.{◌-◌, ◌≤◌}
+use mathlib.Core.Path.{refl, sym, ◌∙◌}
 use native.Mathlib.Omega.{arith}
-use borrow.Author.Tests.{not-true, not-false}
 use lib.Ieee.{nan}
-use lib.ListN.{length, drop}
 use Rattle.number.specs.Range.{finite}
-use Rattle.refusing.specs.Refusal.{every}
 use Rattle.refusing.proofs.EveryLaws.{every_turn, every_fails, every_done}
 use Rattle.refusing.proofs.entries.all_finite.Goals as goal
 

@@ -1,14 +1,9 @@
 -- `all_finite` meets its contract. Assumes nothing.
-use borrow.Author.Rules.{rules}
-use mathlib.Core.Path.{◌≡◌, refl, sym, ◌∙◌}
+use mathlib.Core.Path.{◌≡◌}
 use Prim.Native.Nat.{◌-◌, ◌≤◌}
-use native.Mathlib.Omega.{arith}
-use borrow.Author.Tests.{not-true, not-false}
-use lib.Ieee.{nan}
 use lib.ListN.{length, drop}
 use Rattle.number.specs.Range.{finite}
 use Rattle.refusing.specs.Refusal.{every}
-use Rattle.refusing.proofs.EveryLaws.{every_turn, every_fails, every_done}
 use Rattle.refusing.proofs.entries.all_finite.Given as goal
 
 abbrev pub invariant-loop-i : goal.invariant-loop-i

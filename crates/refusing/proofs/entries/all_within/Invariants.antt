@@ -1,13 +1,8 @@
 -- `all_within` meets its contract. Assumes nothing.
-use borrow.Author.Rules.{rules}
-use mathlib.Core.Path.{◌≡◌, refl, sym, ◌∙◌}
+use mathlib.Core.Path.{◌≡◌}
 use Prim.Native.Nat.{◌-◌, ◌≤◌}
-use native.Mathlib.Omega.{arith}
-use borrow.Author.Tests.{not-true, not-false}
 use lib.ListN.{length, drop}
-use lib.Ieee.{nan, of_bits, neg}
 use Rattle.refusing.specs.Refusal.{every, small}
-use Rattle.refusing.proofs.EveryLaws.{every_turn, every_fails, every_done}
 use Rattle.refusing.proofs.entries.all_within.Given as goal
 
 abbrev pub invariant-loop-i : goal.invariant-loop-i

@@ -1,11 +1,8 @@
 -- `put_floats` meets its contract: what is still to be stored. Assumes nothing.
 use mathlib.Core.Path.{◌≡◌, refl, ◌∙◌}
-use mathlib.Core.List.{map}
-use Prim.Native.Nat.{◌-◌, ◌+◌, ◌≤◌}
+use Prim.Native.Nat.{◌+◌}
 use native.Mathlib.Omega.{arith}
-use lib.ListN.{length, drop, length-set}
-use lib.Seq.{sets}
-use Rattle.number.specs.Bits.{bits_of}
+use lib.ListN.{length-set}
 use Rattle.slots.proofs.GatherLaws.{floats_turn, floats_end}
 use Rattle.slots.proofs.gather.put_floats.Goals as goal
 

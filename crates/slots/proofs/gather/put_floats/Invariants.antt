@@ -1,12 +1,10 @@
 -- `put_floats` meets its contract: what is still to be stored. Assumes nothing.
-use mathlib.Core.Path.{◌≡◌, refl, ◌∙◌}
+use mathlib.Core.Path.{◌≡◌}
 use mathlib.Core.List.{map}
 use Prim.Native.Nat.{◌-◌, ◌+◌, ◌≤◌}
-use native.Mathlib.Omega.{arith}
-use lib.ListN.{length, drop, length-set}
+use lib.ListN.{length, drop}
 use lib.Seq.{sets}
 use Rattle.number.specs.Bits.{bits_of}
-use Rattle.slots.proofs.GatherLaws.{floats_turn, floats_end}
 use Rattle.slots.proofs.gather.put_floats.Given as goal
 
 abbrev pub invariant-loop-i : goal.invariant-loop-i

@@ -1,5 +1,4 @@
 -- `put_head` meets its contract: one array holds the values. Assumes nothing.
-use native.Mathlib.Omega.{arith}
 use Rattle.slots.proofs.GatherLaws.{flag_byte}
 use Rattle.slots.proofs.gather.put_head.Goals as goal
 

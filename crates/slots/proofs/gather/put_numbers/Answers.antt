@@ -1,9 +1,8 @@
 -- `put_numbers` meets its contract: what is still to be stored. Assumes nothing.
 use mathlib.Core.Path.{◌≡◌, refl, ◌∙◌}
-use Prim.Native.Nat.{◌-◌, ◌+◌, ◌≤◌}
+use Prim.Native.Nat.{◌+◌}
 use native.Mathlib.Omega.{arith}
-use lib.ListN.{length, drop, length-set}
-use lib.Seq.{sets}
+use lib.ListN.{length-set}
 use Rattle.slots.proofs.GatherLaws.{numbers_turn, numbers_end}
 use Rattle.slots.proofs.gather.put_numbers.Goals as goal
 

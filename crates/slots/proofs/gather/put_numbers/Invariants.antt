@@ -1,10 +1,8 @@
 -- `put_numbers` meets its contract: what is still to be stored. Assumes nothing.
-use mathlib.Core.Path.{◌≡◌, refl, ◌∙◌}
+use mathlib.Core.Path.{◌≡◌}
 use Prim.Native.Nat.{◌-◌, ◌+◌, ◌≤◌}
-use native.Mathlib.Omega.{arith}
-use lib.ListN.{length, drop, length-set}
+use lib.ListN.{length, drop}
 use lib.Seq.{sets}
-use Rattle.slots.proofs.GatherLaws.{numbers_turn, numbers_end}
 use Rattle.slots.proofs.gather.put_numbers.Given as goal
 
 abbrev pub invariant-loop-i : goal.invariant-loop-i
