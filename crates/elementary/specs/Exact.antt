@@ -1,5 +1,5 @@
 -- "The four functions" of document 01: the exact values, where they are defined, and how near the answers are. Definitions only.
-use Rattle.std.specs.Prelude.{◌≡◌, Bool, true, false, not, ◌&&◌, ℕ, ◌+◌, ◌-◌, ◌*◌, ◌/◌, ◌^◌, T, leb, Float}
+use Rattle.std.specs.Prelude.{◌≡◌, Bool, true, false, not, ◌&&◌, ℕ, ◌+◌, ◌-◌, ◌*◌, ◌/◌, ◌^◌, T, leb, Float, Result}
 use Rattle.std.specs.Float.{nan, inf, binary64}
 use Rattle.std.specs.Float.Ieee.{of_bits, lt, le, eq, is_nan, size as digits}
 use Rattle.std.specs.Float.Ieee.Positive.{num, den, positive}
@@ -8,7 +8,7 @@ use Rattle.number.specs.Range.{finite, is_within}
 use Rattle.elementary.specs.Fraction.{Whole, Fraction, signed, size, negative, ◌+ᶠ◌, ◌−ᶠ◌, ◌×ᶠ◌, whole, two_to, power}
 use Rattle.elementary.specs.Series.{series, factorial, even_factorial, odd_number}
 use Rattle.elementary.specs.Band.{sign_of, value_of, Within, WithinOfIt, Says}
-use Rattle.elementary.specs.declared.answer.Answer.{Answer}
+use Rattle.elementary.specs.declared.answer.Outside.{Outside}
 
 -- ---- the constants, forty digits after the point
 unfoldable pub ten40 : ℕ
@@ -89,7 +89,7 @@ ln_value x = let t = ln_ratio x in record { over = ln_exponent x; under = 1 } ×
 abbrev pub ln_inside : Float → Bool
 ln_inside x = le (of_bits binary64 0x10_0000_0000_0000) x && finite x
 
-unfoldable pub LnAnswer : Float → Answer → Type 0
+unfoldable pub LnAnswer : Float → Result Float Outside → Type 0
 unfolding ln_value
 LnAnswer x = Says (ln_inside x) (λ y. (T (eq x 1f) → y ≡ 0f) × WithinOfIt 48 (value_of y) (ln_value x))
 
@@ -113,7 +113,7 @@ abbrev pub 2^20f : Float
 abbrev pub cos_inside : Float → Bool
 cos_inside x = is_within x (− 2^20f) 2^20f
 
-unfoldable pub CosAnswer : Float → Answer → Type 0
+unfoldable pub CosAnswer : Float → Result Float Outside → Type 0
 unfolding cos_value
 CosAnswer x = Says (cos_inside x) (λ y. (T (eq x 0f) → y ≡ 1f) × Within 44 (value_of y) (cos_value x))
 
@@ -122,9 +122,9 @@ abbrev pub power_inside : Float → ℕ → Bool
 power_inside a s = is_within a (of_bits binary64 0x3870_0000_0000_0000) (of_bits binary64 0x4770_0000_0000_0000) && leb 1 s && leb s 8
 
 -- exponent -s: r * a ^ s differs from 1 by at most 2 ^ -44
-unfoldable pub InversePower : Float → ℕ → Answer → Type 0
+unfoldable pub InversePower : Float → ℕ → Result Float Outside → Type 0
 InversePower a s = Says (power_inside a s) (λ r. (T (eq a 1f) → r ≡ 1f) × T (positive r) × Within 44 (value_of r ×ᶠ power (value_of a) s) (whole false 1))
 
 -- exponent -1 / s: r ^ s * a differs from 1 by at most 2 ^ -40
-unfoldable pub InverseRoot : Float → ℕ → Answer → Type 0
+unfoldable pub InverseRoot : Float → ℕ → Result Float Outside → Type 0
 InverseRoot a s = Says (power_inside a s) (λ r. (T (eq a 1f) → r ≡ 1f) × T (positive r) × Within 40 (power (value_of r) s ×ᶠ value_of a) (whole false 1))
