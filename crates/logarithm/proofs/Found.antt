@@ -1,4 +1,5 @@
 -- For every normal x the float that is computed is near the exact logarithm, of its sign, and 0 only at 1. Assumes nothing.
+use Rattle.std.specs.Prelude.{Ok, Err}
 use mathlib.Core.Path.{◌≡◌, refl, sym, ap, ◌∙◌, subst}
 use mathlib.Core.Bool.{Bool, true, false, not, cond}
 use Prim.Native.Nat.{ℕ, zero, suc, ◌+◌, ◌-◌, ◌*◌, ◌^◌, ◌≤◌, ◌<◌}
@@ -11,7 +12,6 @@ use Rattle.number.specs.Range.{finite}
 use Rattle.root.specs.Parts.{pattern_units}
 use Rattle.elementary.specs.Fraction.{Whole, Fraction}
 use Rattle.elementary.specs.Band.{value_of, WithinOfIt, Says}
-use Rattle.elementary.specs.declared.answer.Answer.TheVariants.{Outside, Inside}
 use Rattle.elementary.specs.Exact.{ln_inside, ln_part, ln_ratio, ln_value, LnAnswer}
 use Rattle.logarithm.specs.Ln.{field, part, turns, near_one, of_pattern, ln_of}
 use Rattle.logarithm.proofs.Pattern.{W, Split, split, field_range}
@@ -160,6 +160,6 @@ pub meets : (x : Float) → T (fits binary64 x) → LnAnswer x (ln_of x)
 unfolding LnAnswer ln_of
 meets x f = go (ln_inside x) refl
   where
-    go : (c : Bool) → ln_inside x ≡ c → Says (ln_inside x) (λ y. (T (eq x 1f) → y ≡ 0f) × WithinOfIt 48 (value_of y) (ln_value x)) (cond c (Inside (of_pattern (to_bits binary64 x))) Outside)
+    go : (c : Bool) → ln_inside x ≡ c → Says (ln_inside x) (λ y. (T (eq x 1f) → y ≡ 0f) × WithinOfIt 48 (value_of y) (ln_value x)) (cond c (Ok (of_pattern (to_bits binary64 x))) (Err (record {})))
     go true e = let i : T (ln_inside x) = subst T (sym e) tt in (i, found_finite x f i (of_pattern (to_bits binary64 x)) (found x f i), (zero_at_one x f i, found_within x f i (of_pattern (to_bits binary64 x)) (found x f i)))
     go false e = subst (λ (c : Bool). T (not c)) (sym e) tt

@@ -1,13 +1,12 @@
 -- The logarithm as it is computed, float by float. Definitions only.
-use Rattle.std.specs.Prelude.{false, cond, ℕ, ◌+◌, ◌-◌, ◌*◌, ◌/◌, pos, Float}
+use Rattle.std.specs.Prelude.{false, cond, ℕ, ◌+◌, ◌-◌, ◌*◌, ◌/◌, pos, Float, Result, Ok, Err}
 use Rattle.std.specs.Float.{binary64}
 use Rattle.std.specs.Float.Ieee.{of_bits, to_bits, of_int, round, eq}
 use Rattle.number.specs.F64.{◌⊕◌, ◌⊖◌, ◌⊗◌, ◌⊘◌, 1f, 2f}
 use Rattle.elementary.specs.Series.{odd_number}
 use Rattle.elementary.specs.Horner.{horner}
 use Rattle.elementary.specs.Exact.{ln_inside}
-use Rattle.elementary.specs.declared.answer.Answer.{Answer}
-use Rattle.elementary.specs.declared.answer.Answer.TheVariants.{Outside, Inside}
+use Rattle.elementary.specs.declared.answer.Outside.{Outside}
 
 -- the float nearest to 1 / (2 * j + 1)
 unfoldable pub coefficient : ℕ → Float
@@ -47,5 +46,5 @@ unfoldable pub of_pattern : ℕ → Float
 of_pattern b = let m = of_bits binary64 (part b) in cond (eq m 1f) (turns (field b)) (turns (field b) ⊕ near_one m)
 
 -- the answer
-unfoldable pub ln_of : Float → Answer
-ln_of x = cond (ln_inside x) (Inside (of_pattern (to_bits binary64 x))) Outside
+unfoldable pub ln_of : Float → Result Float Outside
+ln_of x = cond (ln_inside x) (Ok (of_pattern (to_bits binary64 x))) (Err (record {}))

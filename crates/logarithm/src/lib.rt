@@ -2,12 +2,11 @@
 // factors of 1 + 2^-53, one for each rounding; 31 of them stay within 2^-48.
 #![tactic(auto)]
 
-ghost use Rattle.std.specs.Prelude.{◌≡◌, ◌≤◌, ◌<◌, T};
+ghost use Rattle.std.specs.Prelude.{◌≡◌, ◌≤◌, ◌<◌, T, Ok};
 ghost use Rattle.elementary.specs.Exact.{ln_inside, LnAnswer};
-ghost use Rattle.elementary.specs.declared.answer.Answer.TheVariants.{Inside};
 ghost use Rattle.logarithm.specs.Ln.{sum_of, near_one, of_pattern, ln_of};
 
-use elementary::answer::Answer;
+use elementary::answer::Outside;
 
 // 1 + z/3 + z^2/5 + .. + z^10/21, by Horner's rule, each coefficient the nearest float. For a z
 // within 5 factors of t^2, t at most 1/5: each level within 3, since z times the level inside it is
@@ -56,21 +55,21 @@ fn of_pattern(b: u64) -> f64
 // The logarithm of an x that is known to be positive, normal and finite.
 pub fn ln_inside(x: f64) -> f64
     requires { T (ln_inside x) }
-    ensures result_value { Inside result ≡ ln_of x }
-    ensures ln_answer { LnAnswer x (Inside result) }
+    ensures result_value { Ok result ≡ ln_of x }
+    ensures ln_answer { LnAnswer x (Ok result) }
 {
     of_pattern(f64::to_bits(x))
 }
 
 // The logarithm of a positive, normal and finite x; of any other it is outside.
-pub fn ln(x: f64) -> Answer
+pub fn ln(x: f64) -> Result<f64, Outside>
     ensures value { result ≡ ln_of x }
     ensures ln_answer { LnAnswer x result }
 {
     if 2.2250738585072014e-308 <= x {
         if x < 1.0 / 0.0 {
-            return Answer::Inside(ln_inside(x));
+            return Ok(ln_inside(x));
         }
     }
-    Answer::Outside
+    Err(Outside)
 }

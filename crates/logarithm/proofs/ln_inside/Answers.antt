@@ -1,9 +1,9 @@
 -- `ln_inside` meets its contract. Assumes nothing.
+use Rattle.std.specs.Prelude.{Ok}
 use mathlib.Core.Path.{◌≡◌, refl, sym, ap, ◌∙◌, subst}
 use mathlib.Core.Bool.{Bool, true, false}
 use lib.Dec.{T}
 use lib.Ieee.{Float, binary64, fits, to_bits}
-use Rattle.elementary.specs.declared.answer.Answer.TheVariants.{Inside}
 use Rattle.elementary.specs.Exact.{ln_inside, LnAnswer}
 use Rattle.logarithm.specs.Ln.{of_pattern, ln_of}
 use Rattle.elementary.proofs.Patterns.{not_nan}
@@ -21,15 +21,15 @@ float_to_bits-x c = not_nan c.args.x (normal_above c.args.x c.requires)
 pub of_pattern-requires : goal.of_pattern-requires
 of_pattern-requires c = (bits_least c.args.x (held c) c.requires, bits_most c.args.x (held c) c.requires)
 
-at_inside : (x : Float) → T (ln_inside x) → Inside (of_pattern (to_bits binary64 x)) ≡ ln_of x
+at_inside : (x : Float) → T (ln_inside x) → Ok (of_pattern (to_bits binary64 x)) ≡ ln_of x
 unfolding ln_of
 at_inside x i = go (ln_inside x) refl i
   where
-    go : (b : Bool) → ln_inside x ≡ b → T b → Inside (of_pattern (to_bits binary64 x)) ≡ ln_of x
+    go : (b : Bool) → ln_inside x ≡ b → T b → Ok (of_pattern (to_bits binary64 x)) ≡ ln_of x
     go true e t = rw e refl
     go false e t = absurd t
 
 pub returns : goal.returns
 returns c =
-    let same : Inside c.of_pattern.result ≡ ln_of c.args.x = ap Inside c.of_pattern.ensures ∙ at_inside c.args.x c.requires in
+    let same : Ok c.of_pattern.result ≡ ln_of c.args.x = ap Ok c.of_pattern.ensures ∙ at_inside c.args.x c.requires in
     record { result_value = same; ln_answer = subst (LnAnswer c.args.x) (sym same) (meets c.args.x (held (goal.at.returns c).Start)) }
