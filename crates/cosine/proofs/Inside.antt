@@ -1,4 +1,5 @@
 -- A float inside and its bits, the sign aside: what `rest_of` hands on; and the answers. Assumes nothing.
+use Rattle.std.specs.Prelude.{Ok, Err}
 use Rattle.std.proofs.Common.{◌≡◌, ℕ, ◌*◌, ◌/◌, ◌%◌, ◌^◌, ◌≤◌, Bool, true, false, not, ◌&&◌, T, ℤ, sym, refl, ap, ◌∙◌, true≢false, le_trans, le_of_eq, mul-le-mul_right, le_of_mul-le-mul_right, arith, pow_pos}
 use lib.Ieee.{Float, nan, inf, fin, binary64, fits, is_nan, up, down, le, neg, of_bits, to_bits}
 use lib.Ieee.Fits.{down_pos}
@@ -6,8 +7,6 @@ use lib.Ieee.Nearest.{div_same}
 use Rattle.root.specs.Parts.{pattern_units}
 use Rattle.elementary.specs.Exact.{cos_inside}
 use Rattle.elementary.proofs.Patterns.{size_cross, pattern_at_most}
-use Rattle.elementary.specs.declared.answer.Answer.TheVariants.{Outside, Inside}
-use Rattle.cosine.specs.declared.Cosines.TheVariants as cosines
 use Rattle.cosine.specs.Both.{both_of}
 use Rattle.cosine.specs.Cos.{units_of, rest_of, fall_of, one_less, cos_inside_of, answer, cos_of}
 use Rattle.cosine.proofs.Pattern.{top_units}
@@ -61,14 +60,14 @@ pub inside_rest : (x : Float) → T (fits binary64 x) → T (cos_inside x) → r
 inside_rest x f h = ap rest_of (inside_units x f h)
 
 -- ---- the two answers
-pub chosen : (x : Float) → cos_inside x ≡ true → Inside (cos_inside_of x) ≡ cos_of x
+pub chosen : (x : Float) → cos_inside x ≡ true → Ok (cos_inside_of x) ≡ cos_of x
 unfolding cos_of
 chosen x t = ap (λ (b : Bool). answer b (cos_inside_of x)) (sym t)
 
-pub answer_inside : (x : Float) (r : ℕ) (y : Float) → cos_inside x ≡ true → r ≡ rest_of (units_of x) → y ≡ one_less (fall_of r) → Inside y ≡ cos_of x
-answer_inside x r y h e k = ap Inside (k ∙ ap (λ (z : ℕ). one_less (fall_of z)) e ∙ opened x) ∙ chosen x h
+pub answer_inside : (x : Float) (r : ℕ) (y : Float) → cos_inside x ≡ true → r ≡ rest_of (units_of x) → y ≡ one_less (fall_of r) → Ok y ≡ cos_of x
+answer_inside x r y h e k = ap Ok (k ∙ ap (λ (z : ℕ). one_less (fall_of z)) e ∙ opened x) ∙ chosen x h
 
-pub answer_outside : (x : Float) → cos_inside x ≡ false → Outside ≡ cos_of x
+pub answer_outside : (x : Float) → cos_inside x ≡ false → Err (record {}) ≡ cos_of x
 unfolding cos_of
 answer_outside x t = ap (λ (b : Bool). answer b (cos_inside_of x)) (sym t)
 
@@ -77,10 +76,10 @@ pub both_inside : (s t : Bool) → s && t ≡ true → (s ≡ true) × (t ≡ tr
 both_inside true t h = (refl, h)
 both_inside false t h = absurd (true≢false (sym h))
 
-pub both_outside : (x y : Float) → cos_inside x && cos_inside y ≡ false → cosines.Outside ≡ both_of (cos_of x) (cos_of y)
+pub both_outside : (x y : Float) → cos_inside x && cos_inside y ≡ false → Err (record {}) ≡ both_of (cos_of x) (cos_of y)
 both_outside x y h = go (cos_inside x) (cos_inside y) refl refl h
   where
-    go : (s t : Bool) → cos_inside x ≡ s → cos_inside y ≡ t → s && t ≡ false → cosines.Outside ≡ both_of (cos_of x) (cos_of y)
+    go : (s t : Bool) → cos_inside x ≡ s → cos_inside y ≡ t → s && t ≡ false → Err (record {}) ≡ both_of (cos_of x) (cos_of y)
     go false t e f h = rw (← answer_outside x e) refl
     go true false e f h = rw (← chosen x e, ← answer_outside y f) refl
     go true true e f h = absurd (true≢false h)

@@ -1,4 +1,5 @@
 -- What the crates above may take from the cosine: the band of document 01; inside exactly where the argument is, and then a number from -1 to 1 that binary64 holds. Assumes nothing.
+use Rattle.std.specs.Prelude.{Result, Ok, Err}
 use Rattle.std.proofs.Common.{◌≡◌, ℕ, ◌+◌, ◌-◌, ◌*◌, ◌/◌, ◌^◌, ◌≤◌, Bool, true, false, cond, not, T, ltb, sym, refl, subst, mul-le-mul_right, div-mul-le_self, le_of_mul-le-mul_right, arith, lit<, lit≤, ltb-false, ltb-true}
 use lib.Ieee.{Float, nan, inf, fin, binary64, fits, neg, up, down}
 use lib.Ieee.Bits.{is_true, is_false}
@@ -7,8 +8,6 @@ use lib.Ieee.Fits.{round-fits, neg-fits, cond-fits}
 use lib.Ieee.Positive.{num, den}
 use Rattle.number.specs.Range.{finite}
 use Rattle.elementary.specs.Exact.{cos_inside, CosAnswer}
-use Rattle.elementary.specs.declared.answer.Answer.{Answer}
-use Rattle.elementary.specs.declared.answer.Answer.TheVariants.{Outside, Inside}
 use Rattle.cosine.specs.Cos.{one, units_of, rest_of, fall_of, float_of, one_less, cos_inside_of, cos_of}
 use Rattle.cosine.proofs.Steps.{square_small}
 use Rattle.cosine.proofs.Reduced.{angle}
@@ -17,6 +16,7 @@ use Rattle.cosine.proofs.Answers.{float_value}
 use Rattle.cosine.proofs.Bounded.{fall_most}
 use Rattle.cosine.proofs.Meets.{inside_bound, inside_near, opened, meets}
 use Rattle.cosine.proofs.Inside.{chosen, answer_outside}
+use Rattle.elementary.specs.declared.answer.Outside.{Outside}
 
 -- the answer is the document's, for every float
 pub cos_answer : (x : Float) → CosAnswer x (cos_of x)
@@ -53,9 +53,9 @@ unfolding one_less
 one_less_fits q = cond-fits binary64 (ltb one q) (neg (float_of (q - one))) (float_of (one - q)) (neg-fits binary64 (float_of (q - one)) (float_fits (q - one))) (float_fits (one - q))
 
 -- ---- the laws
-pub record Cosine (r : Answer) : Type 0 where
+pub record Cosine (r : Result Float Outside) : Type 0 where
   pub number : Float
-  pub is : r ≡ Inside number
+  pub is : r ≡ Ok number
   pub finite_number : T (finite number)
   pub at_most_1 : num number ≤ den number
   pub held : T (fits binary64 number)
@@ -72,5 +72,5 @@ cos_inside_lem x t = record {
     r : ℕ
     r = rest_of (units_of x)
 
-pub cos_outside : (x : Float) → T (not (cos_inside x)) → cos_of x ≡ Outside
+pub cos_outside : (x : Float) → T (not (cos_inside x)) → cos_of x ≡ Err (record {})
 cos_outside x n = sym (answer_outside x (is_false (cos_inside x) n))

@@ -1,11 +1,10 @@
 -- The cosine as the code computes it: in whole numbers, in units of 2 ^ -59, each step rounded down. Definitions only.
-use Rattle.std.specs.Prelude.{ℕ, zero, suc, ◌+◌, ◌-◌, ◌*◌, ◌/◌, ◌^◌, Bool, true, false, cond, nat_lt, Float}
+use Rattle.std.specs.Prelude.{ℕ, zero, suc, ◌+◌, ◌-◌, ◌*◌, ◌/◌, ◌^◌, Bool, true, false, cond, nat_lt, Float, Result, Ok, Err}
 use Rattle.std.specs.Float.{binary64}
 use Rattle.std.specs.Float.Ieee.{round, neg}
 use Rattle.std.specs.Float.Ieee.Positive.{num, den}
 use Rattle.elementary.specs.Exact.{cos_inside}
-use Rattle.elementary.specs.declared.answer.Answer.{Answer}
-use Rattle.elementary.specs.declared.answer.Answer.TheVariants.{Outside, Inside}
+use Rattle.elementary.specs.declared.answer.Outside.{Outside}
 
 -- 1 is 2 ^ 59 units
 abbrev pub one : ℕ
@@ -77,11 +76,11 @@ unfolding units_of rest_of fall_of one_less
 cos_inside_of x = one_less (fall_of (rest_of (units_of x)))
 
 -- a number where the test is true, and else that there is none
-abbrev pub answer : Bool → Float → Answer
-answer true y = Inside y
-answer false y = Outside
+abbrev pub answer : Bool → Float → Result Float Outside
+answer true y = Ok y
+answer false y = Err (record {})
 
 -- the cosine of x
-unfoldable pub cos_of : Float → Answer
+unfoldable pub cos_of : Float → Result Float Outside
 unfolding cos_inside_of
 cos_of x = answer (cos_inside x) (cos_inside_of x)

@@ -7,18 +7,11 @@ ghost use Rattle.cosine.specs.Cos.{turn, units_of, rest_of, cos_of};
 ghost use Rattle.cosine.specs.Both.{both_of};
 
 use crate::sum::Two;
-use elementary::answer::Answer;
+use elementary::answer::Outside;
 
 mod angle;
 mod product;
 mod sum;
-
-// The answer for two arguments: inside where both are.
-#[derive(Clone, Copy)]
-pub enum Cosines {
-    Outside,
-    Inside(f64, f64),
-}
 
 // Whether |x| is at most 2^20.
 fn is_inside(x: f64) -> bool
@@ -36,7 +29,7 @@ fn rest_of(x: f64) -> u64
 }
 
 // Inside where |x| is at most 2^20. The series is that of two arguments, with x twice.
-pub fn cos(x: f64) -> Answer
+pub fn cos(x: f64) -> Result<f64, Outside>
     ensures value { result ≡ cos_of x }
     ensures cos_answer { CosAnswer x result }
 {
@@ -46,14 +39,14 @@ pub fn cos(x: f64) -> Answer
             first: r,
             second: r,
         });
-        Answer::Inside(cosines.first)
+        Ok(cosines.first)
     } else {
-        Answer::Outside
+        Err(Outside)
     }
 }
 
 // The cosines of x and of y, in hardly more time than one: their series wait together.
-pub fn cos_both(x: f64, y: f64) -> Cosines
+pub fn cos_both(x: f64, y: f64) -> Result<(f64, f64), Outside>
     ensures { result ≡ both_of (cos_of x) (cos_of y) }
 {
     if is_inside(x) & is_inside(y) {
@@ -61,8 +54,8 @@ pub fn cos_both(x: f64, y: f64) -> Cosines
             first: rest_of(x),
             second: rest_of(y),
         });
-        Cosines::Inside(cosines.first, cosines.second)
+        Ok((cosines.first, cosines.second))
     } else {
-        Cosines::Outside
+        Err(Outside)
     }
 }

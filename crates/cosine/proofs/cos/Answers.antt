@@ -1,15 +1,16 @@
 -- `cos` meets its contract. Assumes nothing.
-use Rattle.std.proofs.Common.{◌≡◌, sym, ◌∙◌, subst}
+use Rattle.std.specs.Prelude.{Result}
+use Rattle.std.proofs.Common.{◌≡◌, sym, ◌∙◌, subst, Float}
 use Rattle.elementary.specs.Exact.{CosAnswer}
-use Rattle.elementary.specs.declared.answer.Answer.{Answer}
 use Rattle.cosine.specs.Cos.{cos_of}
 use Rattle.cosine.proofs.Meets.{meets}
 use Rattle.cosine.proofs.Inside.{answer_inside, answer_outside}
 use Rattle.cosine.proofs.cos.Goals as goal
 use Rattle.cosine.proofs.cos.Goals.{Start}
+use Rattle.elementary.specs.declared.answer.Outside.{Outside}
 
-both : (c : Start) (r : Answer) → r ≡ cos_of c.args.x → (r ≡ cos_of c.args.x) × CosAnswer c.args.x r
-both c r e = (e, subst (λ (z : Answer). CosAnswer c.args.x z) (sym e) (meets c.args.x))
+both : (c : Start) (r : Result Float Outside) → r ≡ cos_of c.args.x → (r ≡ cos_of c.args.x) × CosAnswer c.args.x r
+both c r e = (e, subst (λ (z : Result Float Outside). CosAnswer c.args.x z) (sym e) (meets c.args.x))
 
 pub rest_of-r-requires : goal.rest_of-r-requires
 rest_of-r-requires c = sym c.is_inside.ensures ∙ c.if-is_inside.true
