@@ -1,4 +1,5 @@
 -- The answers case by case: outside, the base 1, and the rest. Assumes nothing.
+use Rattle.std.specs.Prelude.{Result, Ok, Err}
 use mathlib.Core.Path.{◌≡◌, refl, sym, subst}
 use mathlib.Core.Bool.{Bool, true, false, ◌||◌, cond}
 use Prim.Native.Nat.{ℕ, ◌-◌, ◌*◌, ◌^◌}
@@ -12,8 +13,6 @@ use Rattle.number.specs.Range.{finite}
 use Rattle.elementary.specs.Fraction.{whole, power, ◌×ᶠ◌}
 use Rattle.elementary.specs.Band.{value_of, Within, Says}
 use Rattle.elementary.specs.Exact.{power_inside, InversePower, InverseRoot}
-use Rattle.elementary.specs.declared.answer.Answer.{Answer}
-use Rattle.elementary.specs.declared.answer.Answer.TheVariants.{Outside, Inside}
 use Rattle.elementary.proofs.Ratio.{Ratio, ratio_more}
 use Rattle.power.specs.Power.{products, root_of_pattern, answer, inverse_power_of, inverse_root_of}
 use Rattle.power.proofs.Near.{power_within, root_within}
@@ -21,15 +20,16 @@ use Rattle.power.proofs.Base.{base}
 use Rattle.power.proofs.Patterns.{bits}
 use Rattle.power.proofs.PowerNear
 use Rattle.power.proofs.RootNear
+use Rattle.elementary.specs.declared.answer.Outside.{Outside}
 
 -- ---- which case it is
-pub at_outside : (a : Float) (s : ℕ) (r : Float) → power_inside a s ≡ false → Outside ≡ answer a s r
+pub at_outside : (a : Float) (s : ℕ) (r : Float) → power_inside a s ≡ false → Err (record {}) ≡ answer a s r
 at_outside a s r i = rw i refl
 
-pub at_one : (a : Float) (s : ℕ) (r : Float) → power_inside a s ≡ true → eq a 1f ≡ true → Inside 1f ≡ answer a s r
+pub at_one : (a : Float) (s : ℕ) (r : Float) → power_inside a s ≡ true → eq a 1f ≡ true → Ok 1f ≡ answer a s r
 at_one a s r i e = rw (i, e) refl
 
-pub elsewhere : (a : Float) (s : ℕ) (r : Float) → power_inside a s ≡ true → eq a 1f ≡ false → Inside r ≡ answer a s r
+pub elsewhere : (a : Float) (s : ℕ) (r : Float) → power_inside a s ≡ true → eq a 1f ≡ false → Ok r ≡ answer a s r
 elsewhere a s r i e = rw (i, e) refl
 
 -- ---- what is said of the answer
@@ -39,7 +39,7 @@ positive_finite (inf s) p = absurd p
 positive_finite (fin s m e) p = tt
 
 -- 1 where the base is 1, else r
-says : (Near : Float → Type 0) (i e : Bool) (r : Float) → (T i → T e → Near 1f) → (T i → T (positive r) × Near r) → Says i (λ (y : Float). (T e → y ≡ 1f) × T (positive y) × Near y) (cond i (Inside (cond e 1f r)) Outside)
+says : (Near : Float → Type 0) (i e : Bool) (r : Float) → (T i → T e → Near 1f) → (T i → T (positive r) × Near r) → Says i (λ (y : Float). (T e → y ≡ 1f) × T (positive y) × Near y) (cond i (Ok (cond e 1f r)) (Err (record {})))
 unfolding of_bits
 says Near false e r p q = tt
 says Near true true r p q = (tt, tt, (λ w. refl, tt, p tt tt))
@@ -95,10 +95,10 @@ root_says a s f = says (λ (r : Float). Within 40 (power (value_of r) s ×ᶠ va
     rest i = let b = base a s i in RootNear.near_one a s (to_bits binary64 a) b (bits a s f b)
 
 -- both clauses of the contracts from the first
-pub power_meets : (a : Float) (s : ℕ) {r : Answer} → r ≡ inverse_power_of a s → (r ≡ inverse_power_of a s) × InversePower a s r
+pub power_meets : (a : Float) (s : ℕ) {r : Result Float Outside} → r ≡ inverse_power_of a s → (r ≡ inverse_power_of a s) × InversePower a s r
 unfolding InversePower
 power_meets a s e = (e, subst (InversePower a s) (sym e) (power_says a s))
 
-pub root_meets : (a : Float) (s : ℕ) {r : Answer} → T (fits binary64 a) → r ≡ inverse_root_of a s → (r ≡ inverse_root_of a s) × InverseRoot a s r
+pub root_meets : (a : Float) (s : ℕ) {r : Result Float Outside} → T (fits binary64 a) → r ≡ inverse_root_of a s → (r ≡ inverse_root_of a s) × InverseRoot a s r
 unfolding InverseRoot
 root_meets a s f e = (e, subst (InverseRoot a s) (sym e) (root_says a s f))

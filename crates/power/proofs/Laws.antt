@@ -1,4 +1,5 @@
 -- What the crates above may take from the powers: the bands of document 01; inside exactly where the arguments are, and then a number above zero that binary64 holds. Assumes nothing.
+use Rattle.std.specs.Prelude.{Result, Ok, Err}
 use mathlib.Core.Path.{◌≡◌, refl}
 use mathlib.Core.Bool.{Bool, true, false, not, cond}
 use Prim.Native.Nat.{ℕ, ◌+◌, ◌-◌, ◌*◌, ◌/◌, ◌%◌, ◌^◌}
@@ -10,11 +11,10 @@ use lib.Ieee.Positive.{positive}
 use Rattle.number.specs.F64.{1f, ◌⊘◌}
 use Rattle.elementary.specs.Band.{Says}
 use Rattle.elementary.specs.Exact.{power_inside, InversePower, InverseRoot}
-use Rattle.elementary.specs.declared.answer.Answer.{Answer}
-use Rattle.elementary.specs.declared.answer.Answer.TheVariants.{Outside, Inside}
 use Rattle.elementary.proofs.Answers.{outside_says_so}
 use Rattle.power.specs.Power.{products, digits, root_of_pattern, inverse_power_of, inverse_root_of}
 use Rattle.power.proofs.Answers.{PowerHolds, RootHolds, power_says, root_says, power_meets, root_meets}
+use Rattle.elementary.specs.declared.answer.Outside.{Outside}
 
 -- the answers are the document's, for every f64 and every s
 pub power_answer : (a : Float) (s : ℕ) → InversePower a s (inverse_power_of a s)
@@ -24,13 +24,13 @@ pub root_answer : (a : Float) (s : ℕ) → T (fits binary64 a) → InverseRoot 
 root_answer a s f = (root_meets a s f refl).1
 
 -- a number above zero, and so finite, that binary64 holds
-pub record Positive (r : Answer) : Type 0 where
+pub record Positive (r : Result Float Outside) : Type 0 where
   pub number : Float
-  pub is : r ≡ Inside number
+  pub is : r ≡ Ok number
   pub above : T (positive number)
   pub held : T (fits binary64 number)
 
-from_says : (Holds : Float → Type 0) (i : Bool) (y : Float) → ((z : Float) → Holds z → T (positive z)) → T (fits binary64 y) → Says i Holds (cond i (Inside y) Outside) → T i → Positive (cond i (Inside y) Outside)
+from_says : (Holds : Float → Type 0) (i : Bool) (y : Float) → ((z : Float) → Holds z → T (positive z)) → T (fits binary64 y) → Says i Holds (cond i (Ok y) (Err (record {}))) → T i → Positive (cond i (Ok y) (Err (record {})))
 from_says Holds false y p f h i = absurd i
 from_says Holds true y p f h i = record { number = y; is = refl; above = p y h.2; held = f }
 
@@ -42,7 +42,7 @@ pub power_inside_lem : (a : Float) (s : ℕ) → T (power_inside a s) → Positi
 unfolding inverse_power_of
 power_inside_lem a s = let r = 1f ⊘ products a a (s - 1) in from_says (PowerHolds a s) (power_inside a s) (cond (eq a 1f) 1f r) (λ z h. h.1) (chosen a r (div-fits binary64 1f (products a a (s - 1)))) (power_says a s)
 
-pub power_outside : (a : Float) (s : ℕ) → T (not (power_inside a s)) → inverse_power_of a s ≡ Outside
+pub power_outside : (a : Float) (s : ℕ) → T (not (power_inside a s)) → inverse_power_of a s ≡ Err (record {})
 power_outside a s n = outside_says_so (power_inside a s) (PowerHolds a s) (inverse_power_of a s) (power_says a s) n
 
 -- ---- a ^ (-1 / s)
@@ -57,5 +57,5 @@ pub root_inside : (a : Float) (s : ℕ) → T (fits binary64 a) → T (power_ins
 unfolding inverse_root_of
 root_inside a s f = let r = root_of_pattern (to_bits binary64 a) s in from_says (RootHolds a s) (power_inside a s) (cond (eq a 1f) 1f r) (λ z h. h.1) (chosen a r (pattern_fits (to_bits binary64 a) s)) (root_says a s f)
 
-pub root_outside : (a : Float) (s : ℕ) → T (fits binary64 a) → T (not (power_inside a s)) → inverse_root_of a s ≡ Outside
+pub root_outside : (a : Float) (s : ℕ) → T (fits binary64 a) → T (not (power_inside a s)) → inverse_root_of a s ≡ Err (record {})
 root_outside a s f n = outside_says_so (power_inside a s) (RootHolds a s) (inverse_root_of a s) (root_says a s f) n

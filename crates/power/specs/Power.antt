@@ -1,11 +1,10 @@
 -- The powers with the exponents -s and -1 / s as they are computed, product by product. Definitions only.
-use Rattle.std.specs.Prelude.{cond, ℕ, zero, suc, ◌+◌, ◌-◌, ◌*◌, ◌/◌, ◌%◌, ◌^◌, Float}
+use Rattle.std.specs.Prelude.{cond, ℕ, zero, suc, ◌+◌, ◌-◌, ◌*◌, ◌/◌, ◌%◌, ◌^◌, Float, Result, Ok, Err}
 use Rattle.std.specs.Float.{binary64}
 use Rattle.std.specs.Float.Ieee.{lt, eq, of_bits, to_bits}
 use Rattle.number.specs.F64.{1f, ◌⊗◌, ◌⊘◌}
 use Rattle.elementary.specs.Exact.{power_inside}
-use Rattle.elementary.specs.declared.answer.Answer.{Answer}
-use Rattle.elementary.specs.declared.answer.Answer.TheVariants.{Outside, Inside}
+use Rattle.elementary.specs.declared.answer.Outside.{Outside}
 
 -- x * c * .. * c, n products
 unfoldable pub products : Float → Float → ℕ → Float
@@ -32,13 +31,13 @@ root_of_pattern b s =
     of_bits binary64 (digits v s 52 0 + 1 + (1022 + 840 / s - t / s) * 2 ^ 52)
 
 -- a number's inverse power or root, where a and s are inside; a power of 1 is 1
-abbrev pub answer : Float → ℕ → Float → Answer
-answer a s r = cond (power_inside a s) (Inside (cond (eq a 1f) 1f r)) Outside
+abbrev pub answer : Float → ℕ → Float → Result Float Outside
+answer a s r = cond (power_inside a s) (Ok (cond (eq a 1f) 1f r)) (Err (record {}))
 
-unfoldable pub inverse_power_of : Float → ℕ → Answer
+unfoldable pub inverse_power_of : Float → ℕ → Result Float Outside
 unfolding products
 inverse_power_of a s = answer a s (1f ⊘ products a a (s - 1))
 
-unfoldable pub inverse_root_of : Float → ℕ → Answer
+unfoldable pub inverse_root_of : Float → ℕ → Result Float Outside
 unfolding root_of_pattern
 inverse_root_of a s = answer a s (root_of_pattern (to_bits binary64 a) s)

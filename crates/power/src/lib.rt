@@ -8,7 +8,7 @@ ghost use Rattle.number.specs.F64.{1f};
 ghost use Rattle.elementary.specs.Exact.{power_inside, InversePower, InverseRoot};
 ghost use Rattle.power.specs.Power.{products, half, digits, root_of_pattern, inverse_power_of, inverse_root_of};
 
-use elementary::answer::Answer;
+use elementary::answer::Outside;
 
 // 2^120, the largest base.
 const MOST: f64 = 1.329227995784916e36;
@@ -124,30 +124,30 @@ fn root_of(b: u64, s: u64) -> f64
 }
 
 // a^-s. s - 1 products and a quotient: r * a^s is within 8 factors of 1 + 2^-53 of 1, and the band is 2^-44.
-pub fn inverse_power(a: f64, s: u64) -> Answer
+pub fn inverse_power(a: f64, s: u64) -> Result<f64, Outside>
     ensures value { result ≡ inverse_power_of a s }
     ensures inverse_power { InversePower a s result }
 {
     if !inside(a, s) {
-        return Answer::Outside;
+        return Err(Outside);
     }
     if a == 1.0 {
-        return Answer::Inside(1.0);
+        return Ok(1.0);
     }
-    Answer::Inside(1.0 / times(a, a, s - 1))
+    Ok(1.0 / times(a, a, s - 1))
 }
 
 // a^(-1 / s). s factors of the tests and 2 * s of the step from one c to the next (a part in 2^52): r^s * a
 // is within 24 factors of 1 + 2^-53 of 1, and the band is 2^-40.
-pub fn inverse_root(a: f64, s: u64) -> Answer
+pub fn inverse_root(a: f64, s: u64) -> Result<f64, Outside>
     ensures value { result ≡ inverse_root_of a s }
     ensures inverse_root { InverseRoot a s result }
 {
     if !inside(a, s) {
-        return Answer::Outside;
+        return Err(Outside);
     }
     if a == 1.0 {
-        return Answer::Inside(1.0);
+        return Ok(1.0);
     }
-    Answer::Inside(root_of(f64::to_bits(a), s))
+    Ok(root_of(f64::to_bits(a), s))
 }

@@ -1,11 +1,11 @@
 -- `inverse_power` meets its contract, case by case. Assumes nothing.
+use Rattle.std.specs.Prelude.{Ok}
 use mathlib.Core.Path.{◌≡◌, sym, ap, ◌∙◌}
 use mathlib.Core.Bool.{true}
 use Prim.Native.Nat.{◌-◌}
 use lib.Ieee.{Float}
 use Rattle.number.specs.F64.{1f, ◌⊘◌}
 use Rattle.elementary.specs.Exact.{power_inside}
-use Rattle.elementary.specs.declared.answer.Answer.TheVariants.{Inside}
 use Rattle.power.specs.Power.{products, inverse_power_of}
 use Rattle.power.proofs.Base.{base_of}
 use Rattle.power.proofs.Answers.{at_outside, at_one, elsewhere, power_meets}
@@ -35,5 +35,5 @@ overflow_sub-s c =
 pub returns : goal.returns
 unfolding inverse_power_of
 returns c =
-    let r = power_meets c.args.a c.args.s (ap (λ (p : Float). Inside (1f ⊘ p)) c.times.ensures ∙ elsewhere c.args.a c.args.s (1f ⊘ products c.args.a c.args.a (c.args.s - 1)) (arguments_inside (goal.at.returns c).Else-not-inside) c.if-a.false) in
+    let r = power_meets c.args.a c.args.s (ap (λ (p : Float). Ok (1f ⊘ p)) c.times.ensures ∙ elsewhere c.args.a c.args.s (1f ⊘ products c.args.a c.args.a (c.args.s - 1)) (arguments_inside (goal.at.returns c).Else-not-inside) c.if-a.false) in
     record { value = r.0; inverse_power = r.1 }

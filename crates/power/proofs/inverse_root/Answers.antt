@@ -1,10 +1,10 @@
 -- `inverse_root` meets its contract, case by case. Assumes nothing.
+use Rattle.std.specs.Prelude.{Ok}
 use mathlib.Core.Path.{◌≡◌, sym, ap, ◌∙◌, subst}
 use mathlib.Core.Bool.{true}
 use lib.Dec.{T}
 use lib.Ieee.{Float, binary64, fits, to_bits}
 use Rattle.elementary.specs.Exact.{power_inside}
-use Rattle.elementary.specs.declared.answer.Answer.TheVariants.{Inside}
 use Rattle.power.specs.Power.{root_of_pattern, inverse_root_of}
 use Rattle.elementary.proofs.Patterns.{not_nan}
 use Rattle.power.proofs.Base.{Base, base_of}
@@ -48,5 +48,5 @@ root_of-requires c =
 pub returns : goal.returns
 unfolding inverse_root_of
 returns c =
-    let r = root_meets c.args.a c.args.s (held (goal.at.returns c).Start) (ap (λ (r : Float). Inside r) c.root_of.ensures ∙ elsewhere c.args.a c.args.s (root_of_pattern (to_bits binary64 c.args.a) c.args.s) (arguments_inside (goal.at.returns c).Else-not-inside) c.if-a.false) in
+    let r = root_meets c.args.a c.args.s (held (goal.at.returns c).Start) (ap (λ (r : Float). Ok r) c.root_of.ensures ∙ elsewhere c.args.a c.args.s (root_of_pattern (to_bits binary64 c.args.a) c.args.s) (arguments_inside (goal.at.returns c).Else-not-inside) c.if-a.false) in
     record { value = r.0; inverse_root = r.1 }
