@@ -1,7 +1,5 @@
 -- What the parts of the square root's code promise one another. Definitions only.
-use Rattle.std.specs.Prelude.{◌≡◌, ℕ, ◌+◌, ◌-◌, ◌*◌, ◌/◌, ◌%◌, ◌^◌, ◌<◌, ◌≤◌, cond, nat_lt}
-use Rattle.root.specs.declared.checked.Rest.{Rest}
-use Rattle.root.specs.declared.checked.Rest.TheVariants.{Far, Of}
+use Rattle.std.specs.Prelude.{◌≡◌, ℕ, ◌+◌, ◌-◌, ◌*◌, ◌/◌, ◌%◌, ◌^◌, ◌<◌, ◌≤◌, cond, nat_lt, Option, None, Some}
 
 -- the number that the bit pattern of a float from zero up stands for, in units of 2 ^ -1074
 unfoldable pub pattern_units : ℕ → ℕ
@@ -20,6 +18,6 @@ pub record NearestTo (n r : ℕ) : Type 0 where
   pub high : n ≤ r * r + r
 
 -- what q * q leaves of m * 2 ^ 54, where it is told and is below 2 ^ 63
-abbrev pub RestOf : ℕ → ℕ → Rest → Type 0
-RestOf m q Far = m ≡ m
-RestOf m q (Of rest) = rest < 2 ^ 63 → q * q + rest ≡ m * 2 ^ 54
+abbrev pub RestOf : ℕ → ℕ → Option ℕ → Type 0
+RestOf m q None = m ≡ m
+RestOf m q (Some rest) = rest < 2 ^ 63 → q * q + rest ≡ m * 2 ^ 54

@@ -11,30 +11,23 @@ pub(crate) fn guess(near: f64) -> u64
     number::bits::bits_of(near) % 0x10_0000_0000_0000 + 0xf_ffff_ffff_fffe
 }
 
-// What a square leaves of a number, or that it lies too far off.
-#[derive(Clone, Copy)]
-pub(crate) enum Rest {
-    Far,
-    Of(u64),
-}
-
-// What q * q leaves of m * 2^54, in three steps, each modulo 2^64 and of few bits where q is near. A
-// rest from 2^63 on says nothing.
-fn rest_of(m: u64, q: u64) -> Rest
+// What q * q leaves of m * 2^54, in three steps, each modulo 2^64 and of few bits where q is near:
+// none where it is too far off. A rest from 2^63 on says nothing.
+fn rest_of(m: u64, q: u64) -> Option<u64>
     requires { (m < 2 ^ 54) × (q < 2 ^ 54) }
     ensures { RestOf m q result }
 {
     let h = q / 134217728;
     let l = q % 134217728;
-    let first = std::num::wrapping_sub_u64(m, h * h);
+    let first = m.wrapping_sub(h * h);
     if first >= 0x1000_0000 {
-        return Rest::Far;
+        return None;
     }
-    let second = std::num::wrapping_sub_u64(first * 67108864, h * l);
+    let second = (first * 67108864).wrapping_sub(h * l);
     if second >= 0x1_0000_0000 {
-        return Rest::Far;
+        return None;
     }
-    Rest::Of(std::num::wrapping_sub_u64(second * 268435456, l * l))
+    Some((second * 268435456).wrapping_sub(l * l))
 }
 
 // The number nearest to the root of n, for whichever n has 4 * n = (2 * g + 1)^2 + rest: one, two
@@ -43,8 +36,8 @@ fn above(g: u64, rest: u64) -> u64
     requires { (g < 2 ^ 53) × (rest < 24 * g + 48) }
     ensures { (n : ℕ) → (2 * g + 1) * (2 * g + 1) + rest ≡ 4 * n → NearestTo n result }
 {
-    let second = if rest >= 8 * g + 8 { 1 } else { 0 };
-    let third = if rest >= 16 * g + 24 { 1 } else { 0 };
+    let second = u64::from(rest >= 8 * g + 8);
+    let third = u64::from(rest >= 16 * g + 24);
     g + 1 + second + third
 }
 
@@ -53,7 +46,7 @@ pub(crate) fn checked(m: u64, g: u64) -> u64
     requires { (0 < m) × (m < 2 ^ 54) × (g < 2 ^ 53) }
     ensures { NearestTo (m * 2 ^ 52) result }
 {
-    let Rest::Of(rest) = rest_of(m, 2 * g + 1) else {
+    let Some(rest) = rest_of(m, 2 * g + 1) else {
         return nearest_root(m);
     };
     if rest >= 24 * g + 48 {

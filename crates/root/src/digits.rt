@@ -14,11 +14,10 @@ fn floor_root(m: u64) -> Floor
     requires { m < 2 ^ 54 }
     ensures { (result.root * result.root + result.rest ≡ m * 2 ^ 52) × (result.rest ≤ 2 * result.root) × (result.root < 2 ^ 53) }
 {
-    let mut digits: u64 = m << 10;
+    let mut digits = m << 10;
     let mut root: u64 = 0;
     let mut rest: u64 = 0;
-    let mut i: u64 = 0;
-    while i < 53 {
+    for i in 0u64..53 {
         let next = rest * 4 + (digits >> 62);
         let trial = root * 4 + 1;
         digits = digits << 2;
@@ -29,7 +28,6 @@ fn floor_root(m: u64) -> Floor
             rest = next;
             root = root * 2;
         }
-        i += 1;
     }
     Floor { root, rest }
 }

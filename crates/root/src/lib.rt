@@ -51,7 +51,7 @@ pub fn sqrt_near(x: f64, near: f64) -> f64
 {
     if 0.0 < x {
         if x < 1.0 / 0.0 {
-            return rounded(f64::to_bits(x), near);
+            return rounded(x.to_bits(), near);
         }
         return x;
     }

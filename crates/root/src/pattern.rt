@@ -27,7 +27,7 @@ pub(crate) fn split(b: u64) -> Parts
     ensures { Split b result.m result.j }
 {
     if b < 0x10_0000_0000_0000 {
-        let z = u64::leading_zeros(b) - 11;
+        let z = b.leading_zeros() - 11;
         return even(b << z, (54 - z) as u64);
     }
     even(

@@ -1,7 +1,7 @@
 -- `sqrt_near` meets its contract, branch by branch. Assumes nothing.
 use Rattle.std.proofs.Common.{T, sym, ◌∙◌, subst}
 use lib.Ieee.{binary64, fits, of_bits, div}
-use Rattle.root.proofs.Cases.{Above, above, number, bits_least, bits_most, root_above, at_infinity, at_zero, elsewhere}
+use Rattle.root.proofs.Cases.{Above, above, bits_least, bits_most, root_above, at_infinity, at_zero, elsewhere}
 use Rattle.root.proofs.sqrt_near.Goals as goal
 use Rattle.root.proofs.sqrt_near.Goals.{Start, Then-x-2}
 
@@ -12,9 +12,6 @@ held c = subst T (sym c.well_formed.0.1) tt
 positive : (c : Then-x-2) → Above c.args.x
 unfolding of_bits div
 positive c = above c.args.x c.if-x.true c.if-x-2.true
-
-pub float_to_bits-x : goal.float_to_bits-x
-float_to_bits-x c = number c.args.x (positive c) (held (goal.at.float_to_bits-x c).Start)
 
 pub rounded-requires : goal.rounded-requires
 rounded-requires c =

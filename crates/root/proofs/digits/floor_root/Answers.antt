@@ -1,11 +1,8 @@
 -- `floor_root` meets its contract: each turn keeps `Turned`, whichever way its test goes. Assumes nothing.
 use Rattle.std.proofs.Common.{ℕ, ◌+◌, ◌*◌, ◌%◌, ◌^◌, ◌<◌, sym, subst₂, arith}
-use Rattle.root.proofs.Turns.{Turned, first, room, one_digit, zero_digit, last}
+use Rattle.root.proofs.Turns.{Turned, room, one_digit, zero_digit}
 use Rattle.root.proofs.digits.floor_root.Goals as goal
 use Rattle.root.proofs.digits.floor_root.Goals.{In-loop-i, then-next-trial, else-next-trial}
-
-pub loop-i-init : goal.loop-i-init
-loop-i-init c = first c.args.m c.requires
 
 -- within a turn, before the test
 small : (c : In-loop-i) → c.loop-i.root < 2 ^ 52
@@ -23,15 +20,6 @@ overflow_mul-trial c = let h = small c in omega arith
 pub overflow_add-trial : goal.overflow_add-trial
 overflow_add-trial c = let h = small c in omega arith
 
-pub overflow_mul-root : goal.overflow_mul-root
-overflow_mul-root c = let h = small (goal.at.overflow_mul-root c).In-loop-i in omega arith
-
-pub overflow_add-root : goal.overflow_add-root
-overflow_add-root c = let h = small (goal.at.overflow_add-root c).In-loop-i in omega arith
-
-pub overflow_mul-root-else-next-trial : goal.overflow_mul-root-else-next-trial
-overflow_mul-root-else-next-trial c = let h = small (goal.at.overflow_mul-root-else-next-trial c).In-loop-i in omega arith
-
 pub loop-i-preserved : goal.loop-i-preserved
 loop-i-preserved c =
     let turned = λ (a b : ℕ). Turned c.args.m ((c.loop-i.digits * 2 ^ 2) % 2 ^ 64) a b (c.loop-i.i + 1) in
@@ -39,6 +27,3 @@ loop-i-preserved c =
       | then-next-trial w ↦ subst₂ turned (sym w.root-is) (sym w.rest-is) (one_digit c.args.m c.loop-i.digits c.loop-i.root c.loop-i.rest c.loop-i.i c.loop-i.invariant c.loop-i-test.true w.if-next-trial.true)
       | else-next-trial w ↦ subst₂ turned (sym w.root-is) (sym w.rest-is) (zero_digit c.args.m c.loop-i.digits c.loop-i.root c.loop-i.rest c.loop-i.i c.loop-i.invariant c.loop-i-test.true w.if-next-trial.false)
     ]
-
-pub returns : goal.returns
-returns c = last c.args.m c.loop-i.digits c.loop-i.root c.loop-i.rest c.loop-i.i c.loop-i.invariant c.loop-i-test.false

@@ -11,15 +11,6 @@ zeros c = shift c.args.b c.requires.0 c.if-b-lt4503599627370496.true
 pub overflow_sub-z : goal.overflow_sub-z
 overflow_sub-z c = (zeros c).eleven
 
-pub overflow_cast-z : goal.overflow_cast-z
-overflow_cast-z c = let s = zeros c in omega (arith, s.small)
-
-pub overflow_shl-b : goal.overflow_shl-b
-overflow_shl-b c = let s = zeros c in omega (arith, s.small)
-
-pub overflow_sub-z-then-b-lt4503599627370496 : goal.overflow_sub-z-then-b-lt4503599627370496
-overflow_sub-z-then-b-lt4503599627370496 c = let s = zeros c in omega (arith, s.small)
-
 pub even-requires : goal.even-requires
 even-requires c =
     let s = zeros c in
