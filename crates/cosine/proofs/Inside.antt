@@ -1,7 +1,7 @@
 -- A float inside and its bits, the sign aside: what `rest_of` hands on; and the answers. Assumes nothing.
 use Rattle.std.specs.Prelude.{Ok, Err}
-use Rattle.std.proofs.Common.{◌≡◌, ℕ, ◌*◌, ◌/◌, ◌%◌, ◌^◌, ◌≤◌, Bool, true, false, not, ◌&&◌, T, ℤ, sym, refl, ap, ◌∙◌, true≢false, le_trans, le_of_eq, mul-le-mul_right, le_of_mul-le-mul_right, arith, pow_pos}
-use lib.Ieee.{Float, nan, inf, fin, binary64, fits, is_nan, up, down, le, neg, of_bits, to_bits}
+use Rattle.std.proofs.Common.{◌≡◌, ℕ, ◌*◌, ◌/◌, ◌%◌, ◌^◌, ◌≤◌, Bool, true, false, ◌&&◌, T, ℤ, sym, refl, ap, ◌∙◌, true≢false, le_trans, le_of_eq, mul-le-mul_right, le_of_mul-le-mul_right, arith, pow_pos}
+use lib.Ieee.{Float, nan, inf, fin, binary64, fits, up, down, le, neg, of_bits, to_bits}
 use lib.Ieee.Fits.{down_pos}
 use lib.Ieee.Nearest.{div_same}
 use Rattle.root.specs.Parts.{pattern_units}
@@ -11,12 +11,6 @@ use Rattle.cosine.specs.Both.{both_of}
 use Rattle.cosine.specs.Cos.{units_of, rest_of, fall_of, one_less, cos_inside_of, answer, cos_of}
 use Rattle.cosine.proofs.Pattern.{top_units}
 use Rattle.cosine.proofs.Meets.{inside_bound, opened}
-
-pub not_nan : (x : Float) → T (cos_inside x) → T (not (is_nan x))
-unfolding is_nan le neg of_bits
-not_nan nan h = absurd h
-not_nan (inf s) h = tt
-not_nan (fin s m e) h = tt
 
 -- ---- the bits without the sign have the size's number
 module _ (s : Bool) (m : ℕ) (e : ℤ) (f : T (fits binary64 (fin s m e))) where

@@ -1,5 +1,5 @@
 -- What the functions of the sum compute is what the definition says. Assumes nothing.
-use Rattle.std.proofs.Common.{◌≡◌, ℕ, zero, suc, ◌+◌, ◌-◌, ◌*◌, ◌/◌, ◌%◌, ◌^◌, ◌<◌, ◌≤◌, false, pos, negsuc, sym, refl, ap, ◌∙◌, subst, mod-eq_of_lt, div-lt_iff_lt-mul, mul-le-mul, mul-le-mul_left, one-mul, mul-one, arith, lit<, pow_pos, le-ltb, lt-ltb}
+use Rattle.std.proofs.Common.{◌≡◌, ℕ, zero, suc, ◌-◌, ◌*◌, ◌/◌, ◌%◌, ◌^◌, ◌<◌, ◌≤◌, false, pos, negsuc, sym, refl, ap, ◌∙◌, subst, mod-eq_of_lt, one-mul, mul-one, arith, lit<, pow_pos, le-ltb, lt-ltb}
 use native.Mathlib.Nat.{mul-div-mul_left, div-div-eq-div-mul}
 use lib.Ieee.{Float, fin, binary64, mul, neg, round, of_int}
 use lib.Ieee.Back.{round_whole}
@@ -7,7 +7,7 @@ use lib.Ieee.Exact.{HasValue}
 use lib.Ieee.Positive.{mul_at, positive_of_value}
 use Rattle.cosine.specs.Cos.{one, turn, alternating, fall_of, float_of, one_less, steps}
 use Rattle.cosine.proofs.Value.{fall_is}
-use Rattle.cosine.proofs.Answers.{square_most, half_most}
+use Rattle.cosine.proofs.Answers.{square_most}
 
 -- ---- products
 -- 2 ^ 64 is 32 times 1: the factors are moved up by five bits in all
@@ -26,15 +26,6 @@ times_is a p h A P e = product_is a p (a * 2 ^ 1 % 2 ^ 64) (p * 2 ^ 4 % 2 ^ 64) 
 pub square_is : (r h : ℕ) → 2 * r ≤ turn → h ≡ r * 2 ^ 2 % 2 ^ 64 * (r * 2 ^ 3 % 2 ^ 64) / 2 ^ 64 → h ≡ r * r / one
 square_is r h R e = product_is r r (r * 2 ^ 2 % 2 ^ 64) (r * 2 ^ 3 % 2 ^ 64) h (moved r r (2 ^ 2) (2 ^ 3) (2 ^ 64) 32 (omega arith) (omega arith) refl) e
 
--- ---- a step of the series
-pub step_is : (a p h d : ℕ) → a ≤ 10 * one → p ≤ one → 12 ≤ d → h ≡ a * p / one → (h / d ≤ one) × (h / d ≡ a * p / (one * d))
-step_is a p h d A P D e =
-    let most : a * p ≤ 10 * one * one = mul-le-mul A P in
-    let all : a * p / one < 10 * one + 1 = (div-lt_iff_lt-mul {k = one} {x = a * p} {y = 10 * one + 1} (lit< tt)).1 (omega (arith, most)) in
-    let wide : (one + 1) * 12 ≤ (one + 1) * d = mul-le-mul_left (one + 1) D in
-    let small : h / d < one + 1 = (div-lt_iff_lt-mul {k = d} {x = h} {y = one + 1} (omega (arith, D))).1 (omega (arith, all, wide, e)) in
-    (omega (arith, small), ap (λ (z : ℕ). z / d) e ∙ div-div-eq-div-mul (a * p) one d)
-
 -- ---- a whole number times 2 ^ -51
 pub over-2^51 : (m : ℕ) → m ≤ 2 ^ 53 → mul binary64 (of_int binary64 (pos m)) (fin false 1 (negsuc 50)) ≡ round binary64 false m (2 ^ 51)
 unfolding mul of_int round
@@ -50,13 +41,6 @@ small_square r a h e = subst (λ (z : ℕ). 400 * z ≤ 3969 * one) (sym e) (squ
 
 pub half_is : (a p t : ℕ) → t ≡ a * p / one → t / 2 ≡ a * p / (one * 2)
 half_is a p t h = ap (λ (z : ℕ). z / 2) h ∙ div-div-eq-div-mul (a * p) one 2
-
--- it is below 5, so that it leaves room for a float
-pub half_room : (a p q : ℕ) → 400 * a ≤ 3969 * one → p ≤ one → q ≡ a * p / (one * 2) → q - one + 128 < 2 ^ 61
-half_room a p q h k e = go q (subst (λ (z : ℕ). 800 * z ≤ 3969 * one) (sym e) (half_most a p h k))
-  where
-    go : (q : ℕ) → 800 * q ≤ 3969 * one → q - one + 128 < 2 ^ 61
-    go q h = omega arith
 
 pub fall_code : (r a p : ℕ) (y : Float) → a ≡ r * r / one → p ≡ alternating a 1 steps → y ≡ one_less (a * p / (one * 2)) → y ≡ one_less (fall_of r)
 fall_code r a p y e f h =

@@ -1,23 +1,7 @@
 -- Words of 64 bits: the upper word of a product, and differences from lower words. Assumes nothing.
-use Rattle.std.proofs.Common.{◌≡◌, ℕ, ◌+◌, ◌*◌, ◌/◌, ◌%◌, ◌^◌, ◌<◌, ◌≤◌, refl, ◌∙◌, mul-le-mul, div-add-mod', arith}
+use Rattle.std.proofs.Common.{◌≡◌, ℕ, ◌+◌, ◌*◌, ◌/◌, ◌%◌, ◌^◌, refl, ◌∙◌, div-add-mod', arith}
 
 -- ---- the upper word of a product, from halves
--- a product of halves leaves room for a half
-half_room : (a b : ℕ) → a < 2 ^ 32 → b < 2 ^ 32 → a * b + 2 * 4294967295 < 2 ^ 64
-half_room a b ha hb =
-    let x : a ≤ 4294967295 = omega arith in
-    let y : b ≤ 4294967295 = omega arith in
-    omega (arith, mul-le-mul x y)
-
-pub record Rooms (h l k m : ℕ) : Type 0 where
-  pub high : h * k + 2 * 4294967295 < 2 ^ 64
-  pub first : h * m + 2 * 4294967295 < 2 ^ 64
-  pub second : l * k + 2 * 4294967295 < 2 ^ 64
-  pub low : l * m + 2 * 4294967295 < 2 ^ 64
-
-pub rooms : (a b : ℕ) → a < 2 ^ 64 → b < 2 ^ 64 → Rooms (a / 2 ^ 32) (a % 2 ^ 32) (b / 2 ^ 32) (b % 2 ^ 32)
-rooms a b A B = record { high = half_room _ _ (omega arith) (omega arith); first = half_room _ _ (omega arith) (omega arith); second = half_room _ _ (omega arith) (omega arith); low = half_room _ _ (omega arith) (omega arith) }
-
 from_halves : (h l k m : ℕ)
     → h * k + (h * m + l * m / 2 ^ 32) / 2 ^ 32 + (l * k + (h * m + l * m / 2 ^ 32) % 2 ^ 32) / 2 ^ 32 ≡ (h * 2 ^ 32 + l) * (k * 2 ^ 32 + m) / 2 ^ 64
 from_halves h l k m = omega arith

@@ -1,4 +1,5 @@
 -- The definitions that the contracts of the cosine cite.
 pub mod Cos
 pub mod Both
+pub mod Sides
 pub mod Examples

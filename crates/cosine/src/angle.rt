@@ -23,21 +23,19 @@ fn multiple_of(k: u64) -> u64
     requires { k ≤ 2 ^ 18 }
     ensures { result ≡ multiple k % 2 ^ 64 }
 {
-    number::wrapping::wrapping_add(
-        number::wrapping::wrapping_mul(k, 3622009729038561421),
-        (k * 13522270992397) >> 46,
-    )
+    k.wrapping_mul(3622009729038561421)
+        .wrapping_add((k * 13522270992397) >> 46)
 }
 
 // How far two numbers are from one another, from their lower words, where that is below 2^63: the sign bit of the difference says which is larger.
 fn distance(x: u64, y: u64) -> u64
     ensures { (p q : ℕ) → p % 2 ^ 64 ≡ x → q % 2 ^ 64 ≡ y → gap p q < 2 ^ 63 → result ≡ gap p q }
 {
-    let d = std::num::wrapping_sub_u64(x, y);
+    let d = x.wrapping_sub(y);
     if d < 0x8000_0000_0000_0000 {
         d
     } else {
-        0xffff_ffff_ffff_ffff - d + 1
+        d.wrapping_neg()
     }
 }
 

@@ -6,7 +6,7 @@ ghost use Rattle.elementary.specs.Exact.{cos_inside, CosAnswer};
 ghost use Rattle.cosine.specs.Cos.{turn, units_of, rest_of, cos_of};
 ghost use Rattle.cosine.specs.Both.{both_of};
 
-use crate::sum::Two;
+use crate::sum::Pair;
 use elementary::answer::Outside;
 
 mod angle;
@@ -25,7 +25,7 @@ fn rest_of(x: f64) -> u64
     requires { cos_inside x ≡ true }
     ensures { (result ≡ rest_of (units_of x)) × (2 * result ≤ turn) }
 {
-    angle::rest(f64::to_bits(x) % 0x8000_0000_0000_0000)
+    angle::rest(x.to_bits() % 0x8000_0000_0000_0000)
 }
 
 // Inside where |x| is at most 2^20. The series is that of two arguments, with x twice.
@@ -35,7 +35,7 @@ pub fn cos(x: f64) -> Result<f64, Outside>
 {
     if is_inside(x) {
         let r = rest_of(x);
-        let cosines = sum::cos_of_rests(Two {
+        let cosines = sum::cos_of_rests(Pair {
             first: r,
             second: r,
         });
@@ -50,7 +50,7 @@ pub fn cos_both(x: f64, y: f64) -> Result<(f64, f64), Outside>
     ensures { result ≡ both_of (cos_of x) (cos_of y) }
 {
     if is_inside(x) & is_inside(y) {
-        let cosines = sum::cos_of_rests(Two {
+        let cosines = sum::cos_of_rests(Pair {
             first: rest_of(x),
             second: rest_of(y),
         });

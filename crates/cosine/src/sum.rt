@@ -1,21 +1,15 @@
 // The sum of the cosine's series, to the power 62.
 ghost use Rattle.std.specs.Prelude.{◌≡◌, ◌+◌, ◌-◌, ◌*◌, ◌/◌, ◌^◌, ◌<◌, ◌≤◌};
-ghost use Rattle.cosine.specs.Cos.{one, turn, alternating, steps, fall_of, float_of, one_less};
+ghost use Rattle.cosine.specs.Cos.{one, turn, steps, fall_of, float_of, one_less};
+ghost use Rattle.cosine.specs.Sides.{Squares, Steps};
 
 use crate::product::high_product;
 
-// Two numbers side by side. Each step of the series waits for the one before it: two series, taken step by step together, last hardly longer than one.
+// Two of a kind side by side. Each step of the series waits for the one before it: two series, taken step by step together, last hardly longer than one.
 #[derive(Clone, Copy)]
-pub(crate) struct Two {
-    pub(crate) first: u64,
-    pub(crate) second: u64,
-}
-
-// The cosines of two angles.
-#[derive(Clone, Copy)]
-pub(crate) struct Pair {
-    pub(crate) first: f64,
-    pub(crate) second: f64,
+pub(crate) struct Pair<T> {
+    pub(crate) first: T,
+    pub(crate) second: T,
 }
 
 // a * p in units, rounded down.
@@ -35,24 +29,24 @@ fn step(a: u64, p: u64, divisor: u64) -> u64
 }
 
 // A step of each of two series, with the same divisor.
-fn step_both(a: Two, p: Two, divisor: u64) -> Two
-    requires { (a.first ≤ 10 * one) × (a.second ≤ 10 * one) × (p.first ≤ one) × (p.second ≤ one) × (12 ≤ divisor) }
+fn step_both(a: Pair<u64>, p: Pair<u64>, divisor: u64) -> Pair<u64>
+    requires squares { Squares a }
+    requires inner { (p.first ≤ one) × (p.second ≤ one) × (12 ≤ divisor) }
     ensures first_value { (result.first ≡ one - a.first * p.first / (one * divisor)) × (result.first ≤ one) }
     ensures second_value { (result.second ≡ one - a.second * p.second / (one * divisor)) × (result.second ≤ one) }
 {
-    Two {
+    Pair {
         first: step(a.first, p.first, divisor),
         second: step(a.second, p.second, divisor),
     }
 }
 
 // The innermost ten of each, with the divisors 61 * 62 to 43 * 44.
-fn innermost(a: Two) -> Two
-    requires { (a.first ≤ 10 * one) × (a.second ≤ 10 * one) }
-    ensures first_value { (result.first ≡ alternating a.first 21 10) × (result.first ≤ one) }
-    ensures second_value { (result.second ≡ alternating a.second 21 10) × (result.second ≤ one) }
+fn innermost(a: Pair<u64>) -> Pair<u64>
+    requires { Squares a }
+    ensures { Steps a 21 10 result }
 {
-    let p31 = Two {
+    let p31 = Pair {
         first: 576460752303423488,
         second: 576460752303423488,
     };
@@ -69,11 +63,10 @@ fn innermost(a: Two) -> Two
 }
 
 // The ten around them, with 41 * 42 to 23 * 24.
-fn between(a: Two, p: Two) -> Two
-    requires first_bound { (a.first ≤ 10 * one) × (p.first ≡ alternating a.first 21 10) × (p.first ≤ one) }
-    requires second_bound { (a.second ≤ 10 * one) × (p.second ≡ alternating a.second 21 10) × (p.second ≤ one) }
-    ensures first_value { (result.first ≡ alternating a.first 11 20) × (result.first ≤ one) }
-    ensures second_value { (result.second ≡ alternating a.second 11 20) × (result.second ≤ one) }
+fn between(a: Pair<u64>, p: Pair<u64>) -> Pair<u64>
+    requires squares { Squares a }
+    requires inner { Steps a 21 10 p }
+    ensures { Steps a 11 20 result }
 {
     let p20 = step_both(a, p, 1722);
     let p19 = step_both(a, p20, 1560);
@@ -89,10 +82,9 @@ fn between(a: Two, p: Two) -> Two
 
 // Of each, 1 - a / (3 * 4) * (1 - a / (5 * 6) * (1 - ..)), to the divisor 61 * 62.
 // a is within 24 units of the exact square and at most 10; 24 units and those of the inner part, 10 * 32, over 12, and one: within 32 units again at each step.
-fn inner(a: Two) -> Two
-    requires { (a.first ≤ 10 * one) × (a.second ≤ 10 * one) }
-    ensures first_value { (result.first ≡ alternating a.first 1 steps) × (result.first ≤ one) }
-    ensures second_value { (result.second ≡ alternating a.second 1 steps) × (result.second ≤ one) }
+fn inner(a: Pair<u64>) -> Pair<u64>
+    requires { Squares a }
+    ensures { Steps a 1 steps result }
 {
     let p = between(a, innermost(a));
     let p10 = step_both(a, p, 462);
@@ -137,11 +129,11 @@ fn cos_of_square(a: u64, p: u64) -> f64
 }
 
 // The cosines of two rests.
-pub(crate) fn cos_of_rests(r: Two) -> Pair
+pub(crate) fn cos_of_rests(r: Pair<u64>) -> Pair<f64>
     requires { (2 * r.first ≤ turn) × (2 * r.second ≤ turn) }
     ensures { (result.first ≡ one_less (fall_of r.first)) × (result.second ≡ one_less (fall_of r.second)) }
 {
-    let a = Two {
+    let a = Pair {
         first: square(r.first),
         second: square(r.second),
     };

@@ -12,9 +12,6 @@ use Rattle.elementary.specs.declared.answer.Outside.{Outside}
 both : (c : Start) (r : Result Float Outside) → r ≡ cos_of c.args.x → (r ≡ cos_of c.args.x) × CosAnswer c.args.x r
 both c r e = (e, subst (λ (z : Result Float Outside). CosAnswer c.args.x z) (sym e) (meets c.args.x))
 
-pub rest_of-r-requires : goal.rest_of-r-requires
-rest_of-r-requires c = sym c.is_inside.ensures ∙ c.if-is_inside.true
-
 pub returns-then-is_inside : goal.returns-then-is_inside
 returns-then-is_inside c =
     let r = both (goal.at.returns-then-is_inside c).Start _ (answer_inside c.args.x c.rest_of-r.result c.cos_of_rests-cosines.result.first (sym c.is_inside.ensures ∙ c.if-is_inside.true) c.rest_of-r.ensures.0 c.cos_of_rests-cosines.ensures.0) in

@@ -8,12 +8,6 @@ use Rattle.cosine.proofs.cos_both.Goals.{Then-is_inside}
 inside : (c : Then-is_inside) → (cos_inside c.args.x ≡ true) × (cos_inside c.args.y ≡ true)
 inside c = both_inside _ _ (rw (c.is_inside.ensures, c.is_inside-2.ensures) at c.if-is_inside.true)
 
-pub rest_of-requires : goal.rest_of-requires
-rest_of-requires c = (inside c).0
-
-pub rest_of-requires-then-is_inside : goal.rest_of-requires-then-is_inside
-rest_of-requires-then-is_inside c = (inside (goal.at.rest_of-requires-then-is_inside c).Then-is_inside).1
-
 pub returns-then-is_inside : goal.returns-then-is_inside
 returns-then-is_inside c =
     let e = answer_inside c.args.x c.rest_of.result c.cos_of_rests-cosines.result.first (inside (goal.at.returns-then-is_inside c).Then-is_inside).0 c.rest_of.ensures.0 c.cos_of_rests-cosines.ensures.0 in

@@ -2,7 +2,7 @@
 use Rattle.std.proofs.Common.{T, sym, ◌∙◌, subst}
 use lib.Ieee.{binary64, fits}
 use Rattle.elementary.specs.Exact.{cos_inside}
-use Rattle.cosine.proofs.Inside.{not_nan, inside_bits, inside_rest}
+use Rattle.cosine.proofs.Inside.{inside_bits, inside_rest}
 use Rattle.cosine.proofs.rest_of.Goals as goal
 use Rattle.cosine.proofs.rest_of.Goals.{Start}
 
@@ -11,9 +11,6 @@ held c = subst T (sym c.well_formed.0.1) tt
 
 inside : (c : Start) → T (cos_inside c.args.x)
 inside c = subst T (sym c.requires) tt
-
-pub float_to_bits-x : goal.float_to_bits-x
-float_to_bits-x c = not_nan c.args.x (inside c)
 
 pub rest-requires : goal.rest-requires
 rest-requires c = inside_bits c.args.x (held c) (inside c)

