@@ -27,10 +27,8 @@ fn times(x: f64, c: f64, n: u64) -> f64
     ensures { result ≡ products x c n }
 {
     let mut p = x;
-    let mut i: u64 = 0;
-    while i < n {
+    for i in 0..n {
         p = p * c;
-        i += 1;
     }
     p
 }
@@ -51,9 +49,7 @@ fn digits_from(v: f64, s: u64, count: u64, start: u64) -> u64
     ensures upper_bound { result < 0x10_0000_0000_0000 }
 {
     let mut m = start;
-    let mut n = count;
-    while n > 0 {
-        n -= 1;
+    for n in (0..count).rev() {
         let next = m + (1 << n);
         if is_below(v, s, next) {
             m = next;
@@ -149,5 +145,5 @@ pub fn inverse_root(a: f64, s: u64) -> Result<f64, Outside>
     if a == 1.0 {
         return Ok(1.0);
     }
-    Ok(root_of(f64::to_bits(a), s))
+    Ok(root_of(a.to_bits(), s))
 }

@@ -1,5 +1,5 @@
 -- `digits_from` meets its contract: what is left to find is what the definition leaves. Assumes nothing.
-use mathlib.Core.Path.{refl, sym, ◌∙◌}
+use mathlib.Core.Path.{sym, ◌∙◌}
 use mathlib.Core.Bool.{true, false}
 use Prim.Native.Nat.{◌-◌, ◌*◌, ◌%◌, ◌^◌}
 use native.Mathlib.Omega.{arith}
@@ -8,18 +8,9 @@ use Rattle.power.proofs.Turns.{Digit, digit, turn, found}
 use Rattle.power.proofs.digits_from.Goals as goal
 use Rattle.power.proofs.digits_from.Goals.{In-loop-n}
 
-pub loop-n-init : goal.loop-n-init
-loop-n-init c = (c.requires.0, c.requires.1, refl)
-
 -- the digit that a turn tries
 tried : (c : In-loop-n) → Digit c.loop-n.m (c.loop-n.n - 1)
 tried c = digit c.loop-n.m c.loop-n.n (c.loop-n.n - 1) (omega arith) c.loop-n.invariant.0 c.loop-n.invariant.1
-
-pub overflow_add-next : goal.overflow_add-next
-overflow_add-next c = let d = tried c in omega arith
-
-pub is_below-requires : goal.is_below-requires
-is_below-requires c = let d = tried c in omega arith
 
 pub loop-n-preserved-then-is_below : goal.loop-n-preserved-then-is_below
 loop-n-preserved-then-is_below c =

@@ -6,6 +6,3 @@ use Rattle.power.proofs.digits_from.Given as goal
 
 abbrev pub invariant-loop-n : goal.invariant-loop-n
 invariant-loop-n l = (l.n ≤ 52) × (l.m + 2 ^ l.n ≤ 2 ^ 52) × (digits l.v l.s l.n l.m ≡ digits l.v l.s l.count l.start)
-
-abbrev pub decreases-loop-n : goal.decreases-loop-n
-decreases-loop-n l = l.n

@@ -7,7 +7,6 @@ use lib.Ieee.{Float}
 use Rattle.number.specs.F64.{1f, ◌⊘◌}
 use Rattle.elementary.specs.Exact.{power_inside}
 use Rattle.power.specs.Power.{products, inverse_power_of}
-use Rattle.power.proofs.Base.{base_of}
 use Rattle.power.proofs.Answers.{at_outside, at_one, elsewhere, power_meets}
 use Rattle.power.proofs.inverse_power.Goals as goal
 use Rattle.power.proofs.inverse_power.Goals.{Else-not-inside}
@@ -27,10 +26,6 @@ unfolding inverse_power_of
 returns-then-a c =
     let r = power_meets c.args.a c.args.s (at_one c.args.a c.args.s (1f ⊘ products c.args.a c.args.a (c.args.s - 1)) (arguments_inside (goal.at.returns-then-a c).Else-not-inside) c.if-a.true) in
     record { value = r.0; inverse_power = r.1 }
-
-pub overflow_sub-s : goal.overflow_sub-s
-overflow_sub-s c =
-    (base_of c.args.a c.args.s (arguments_inside (goal.at.overflow_sub-s c).Else-not-inside)).from
 
 pub returns : goal.returns
 unfolding inverse_power_of

@@ -6,7 +6,6 @@ use lib.Dec.{T}
 use lib.Ieee.{Float, binary64, fits, to_bits}
 use Rattle.elementary.specs.Exact.{power_inside}
 use Rattle.power.specs.Power.{root_of_pattern, inverse_root_of}
-use Rattle.elementary.proofs.Patterns.{not_nan}
 use Rattle.power.proofs.Base.{Base, base_of}
 use Rattle.power.proofs.Patterns.{bits}
 use Rattle.power.proofs.Answers.{at_outside, at_one, elsewhere, root_meets}
@@ -35,9 +34,6 @@ unfolding inverse_root_of
 returns-then-a c =
     let r = root_meets c.args.a c.args.s (held (goal.at.returns-then-a c).Start) (at_one c.args.a c.args.s (root_of_pattern (to_bits binary64 c.args.a) c.args.s) (arguments_inside (goal.at.returns-then-a c).Else-not-inside) c.if-a.true) in
     record { value = r.0; inverse_root = r.1 }
-
-pub float_to_bits-a : goal.float_to_bits-a
-float_to_bits-a c = not_nan c.args.a (based c).above
 
 pub root_of-requires : goal.root_of-requires
 root_of-requires c =

@@ -1,7 +1,6 @@
 -- `times` meets its contract: each turn is one product of the definition. Assumes nothing.
 use mathlib.Core.Path.{◌≡◌, refl, sym, ap, ◌∙◌}
 use Prim.Native.Nat.{ℕ, ◌+◌}
-use native.Mathlib.Nat.{le_antisymm}
 use native.Mathlib.Numerals.{add-one}
 use native.Mathlib.Omega.{arith}
 use lib.Ieee.{Float}
@@ -20,7 +19,3 @@ turn x c p i e = ap (λ (z : Float). z ⊗ c) e ∙ sym (ap (products x c) (add-
 pub loop-i-preserved : goal.loop-i-preserved
 loop-i-preserved c =
     (omega arith, turn c.args.x c.args.c c.loop-i.p c.loop-i.i c.loop-i.invariant.1)
-
-pub returns : goal.returns
-returns c =
-    c.loop-i.invariant.1 ∙ ap (products c.args.x c.args.c) (le_antisymm c.loop-i.invariant.0 c.loop-i-test.false)
