@@ -1,9 +1,9 @@
 -- The branches of `exp`: what the tests on the way say of x, and what the bit pattern of an x inside the range is. Assumes nothing.
-use Rattle.std.proofs.Common.{◌≡◌, ℕ, ◌-◌, ◌*◌, ◌/◌, ◌%◌, ◌^◌, ◌<◌, ◌≤◌, Bool, true, false, cond, not, T, leb, ℤ, sym, refl, ap, ◌∙◌, subst, le_trans, le_of_eq, mul-le-mul_right, le_of_mul-le-mul_right, arith, lit≤}
+use Rattle.std.proofs.Common.{◌≡◌, ℕ, ◌-◌, ◌*◌, ◌/◌, ◌%◌, ◌^◌, ◌<◌, ◌≤◌, Bool, true, false, cond, T, leb, ℤ, sym, refl, ap, ◌∙◌, subst, le_trans, le_of_eq, mul-le-mul_right, le_of_mul-le-mul_right, arith, lit≤}
 use lib.Ieee.Fits.{down_pos}
-use lib.Ieee.{Float, nan, inf, fin, binary64, fits, up, down, lt, ne, is_nan, of_bits, to_bits, neg}
+use lib.Ieee.{Float, nan, inf, fin, binary64, fits, up, down, lt, is_nan, of_bits, to_bits, neg}
 use Rattle.number.specs.F64.{0f, −◌}
-use Rattle.number.proofs.Floats.{differs_is_nan, is_the_nan}
+use Rattle.number.proofs.Floats.{is_the_nan}
 use Rattle.root.specs.Parts.{pattern_units}
 use Rattle.elementary.specs.Exact.{709f, 708f, ExpAnswer}
 use Rattle.elementary.proofs.Patterns.{size_fits, size_bits, sign_bit, pattern_at_most}
@@ -18,24 +18,18 @@ pub answered : (x r : Float) → T (fits binary64 x) → r ≡ exp_of x → (r �
 answered x r f e = (e, subst (ExpAnswer x) (sym e) (meets x f))
 
 -- ---- outside
-pub at_nan : (x : Float) → ne x x ≡ true → x ≡ exp_of x
+pub at_nan : (x : Float) → is_nan x ≡ true → x ≡ exp_of x
 unfolding exp_of is_nan
-at_nan x h = let n : x ≡ nan = is_the_nan x (sym (differs_is_nan x) ∙ h) in subst (λ (z : Float). z ≡ exp_of z) (sym n) refl
+at_nan x h = let n : x ≡ nan = is_the_nan x h in subst (λ (z : Float). z ≡ exp_of z) (sym n) refl
 
-number : (x : Float) → ne x x ≡ false → is_nan x ≡ false
-number x h = sym (differs_is_nan x) ∙ h
-
-pub not_nan : (x : Float) → ne x x ≡ false → T (not (is_nan x))
-not_nan x h = rw (number x h) tt
-
-module _ (x : Float) (n : ne x x ≡ false) where
+module _ (x : Float) (n : is_nan x ≡ false) where
   pub above : lt 709f x ≡ true → inf false ≡ exp_of x
   unfolding exp_of
-  above h = rw (number x n, h) refl
+  above h = rw (n, h) refl
 
   pub below : lt 709f x ≡ false → lt x (− 708f) ≡ true → 0f ≡ exp_of x
   unfolding exp_of
-  below h l = rw (number x n, h, l) refl
+  below h l = rw (n, h, l) refl
 
 -- ---- inside
 pub record Inside (x : Float) : Type 0 where
@@ -47,8 +41,8 @@ pub record Inside (x : Float) : Type 0 where
   pub high : lt 709f (fin t m e) ≡ false
   pub low : lt (fin t m e) (− 708f) ≡ false
 
-pub inside : (x : Float) → T (fits binary64 x) → ne x x ≡ false → lt 709f x ≡ false → lt x (− 708f) ≡ false → Inside x
-unfolding ne lt of_bits neg
+pub inside : (x : Float) → T (fits binary64 x) → is_nan x ≡ false → lt 709f x ≡ false → lt x (− 708f) ≡ false → Inside x
+unfolding is_nan lt of_bits neg
 inside nan f n h l = absurd (let z : ◌≡◌ {A = ℕ} 0 1 = cc in omega arith)
 inside (inf false) f n h l = absurd (let z : ◌≡◌ {A = ℕ} 0 1 = cc in omega arith)
 inside (inf true) f n h l = absurd (let z : ◌≡◌ {A = ℕ} 0 1 = cc in omega arith)

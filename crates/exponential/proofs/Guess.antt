@@ -1,5 +1,5 @@
 -- The k that the code finds: its guess is right or one too large. Assumes nothing.
-use Rattle.std.proofs.Common.{◌≡◌, ℕ, zero, suc, ◌+◌, ◌-◌, ◌*◌, ◌/◌, ◌^◌, ◌<◌, ◌≤◌, sym, subst, le_trans, not-suc-le-zero, lt_of_not-le, arith}
+use Rattle.std.proofs.Common.{◌≡◌, ℕ, zero, suc, ◌+◌, ◌-◌, ◌*◌, ◌/◌, ◌<◌, ◌≤◌, sym, subst, le_trans, not-suc-le-zero, lt_of_not-le, arith}
 use native.Mathlib.Decide.{dec_le}
 use Rattle.exponential.specs.Exp.{multiples}
 
@@ -14,9 +14,6 @@ multiples_ge j = omega arith
 multiples_le : (j : ℕ) → multiples j ≤ j * 6243314768165360
 unfolding multiples
 multiples_le j = omega arith
-
-pub multiples_fit : (j : ℕ) → j < 2048 → multiples j < 2 ^ 64
-multiples_fit j h = let q : multiples j ≤ j * 6243314768165360 = multiples_le j in omega arith
 
 -- the largest argument, 709
 abbrev pub limit : ℕ

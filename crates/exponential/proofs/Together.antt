@@ -1,12 +1,12 @@
 -- The parts of an answer, joined, are the answer: without a rest the sum is 1, and 1 times the power is the power. Assumes nothing.
 use Rattle.std.proofs.Common.{◌≡◌, ℕ, ◌+◌, ◌-◌, ◌*◌, ◌^◌, ◌≤◌, Bool, true, false, cond, T, ltb, pos, sym, refl, ap, ◌∙◌, subst, one-mul, lt_of_not-le, arith, pow_pos, pow_mono, pow-add}
 use native.Mathlib.Decide.{dec_le}
-use lib.Ieee.{Float, nan, inf, binary64, fits, of_bits, of_int, add, mul, neg, ne, unlike}
+use lib.Ieee.{Float, nan, inf, binary64, fits, of_bits, of_int, add, mul, neg, is_nan, unlike}
 use lib.Ieee.Bits.{of_bits-fits}
 use lib.Ieee.Exact.{HasValue}
 use lib.Ieee.Fits.{mul-fits}
 use Rattle.number.specs.F64.{◌⊗◌, −◌, 0f, 1f}
-use Rattle.number.proofs.Floats.{differs_is_nan, is_the_nan}
+use Rattle.number.proofs.Floats.{is_the_nan}
 use Rattle.root.proofs.Floats.{units_are, same_float}
 use Rattle.elementary.specs.Horner.{horner}
 use Rattle.elementary.proofs.Rounding.{Ordinary}
@@ -93,9 +93,9 @@ joined_inside s u k h = go (multiples (2 * k)) refl (dec_le ((u - multiples (2 *
     go m e (no n) = sym (with_rest s u k (λ same. n (omega arith)))
 
 -- ---- outside, where the power is the answer
-pub joined_nan : (x : Float) → ne x x ≡ true → sum_at 0f ⊗ x ≡ x
+pub joined_nan : (x : Float) → is_nan x ≡ true → sum_at 0f ⊗ x ≡ x
 unfolding of_bits mul
-joined_nan x h = let n : x ≡ nan = is_the_nan x (sym (differs_is_nan x) ∙ h) in subst (λ (z : Float). sum_at 0f ⊗ z ≡ z) (sym n) (ap (λ (p : Float). p ⊗ nan) sum_at_zero ∙ once)
+joined_nan x h = let n : x ≡ nan = is_the_nan x h in subst (λ (z : Float). sum_at 0f ⊗ z ≡ z) (sym n) (ap (λ (p : Float). p ⊗ nan) sum_at_zero ∙ once)
   where
     once : 1f ⊗ nan ≡ nan
     once = refl

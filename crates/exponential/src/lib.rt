@@ -27,11 +27,10 @@ fn rest(negative: bool, u: u64, m: u64) -> f64
     requires { (u - m) + (m - u) ≤ 2 ^ 53 }
     ensures { result ≡ rest_of negative u m }
 {
-    let over = std::num::wrapping_sub_u64(u, m) / 0x8000_0000_0000_0000;
-    let sign = if negative { 1 } else { 0 };
-    let size = if u < m { m - u } else { u - m };
+    let over = u.wrapping_sub(m) / 0x8000_0000_0000_0000;
+    let sign = u64::from(negative);
     let unit = 0x3c90_0000_0000_0000 + (sign + over) % 2 * 0x8000_0000_0000_0000;
-    (size as f64) * f64::from_bits(unit)
+    (u.abs_diff(m) as f64) * f64::from_bits(unit)
 }
 
 // What e^x is made of: the argument of the sum, and what the sum is multiplied by.
@@ -57,7 +56,7 @@ fn inside(negative: bool, u: u64, k: u64) -> Parts
 pub fn split(x: f64) -> Parts
     ensures { sum_at result.rest ⊗ result.power ≡ exp_of x }
 {
-    if x != x {
+    if x.is_nan() {
         return Parts {
             rest: 0.0,
             power: x,
@@ -75,7 +74,7 @@ pub fn split(x: f64) -> Parts
             power: 0.0,
         };
     }
-    let b = f64::to_bits(x);
+    let b = x.to_bits();
     let u = units(b % 0x8000_0000_0000_0000);
     inside(b >= 0x8000_0000_0000_0000, u, nearest(u))
 }

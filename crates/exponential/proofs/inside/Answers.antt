@@ -6,9 +6,6 @@ use Rattle.exponential.specs.Exp.{multiples, rest_of, sum_at}
 use Rattle.exponential.proofs.Together.{joined_inside}
 use Rattle.exponential.proofs.inside.Goals as goal
 
-pub rest-requires : goal.rest-requires
-rest-requires c = rw c.multiple-m.ensures c.requires.1
-
 pub returns : goal.returns
 returns c =
     ap (λ (p : Float). sum_at p ⊗ c.power_of_two.result) (c.rest.ensures ∙ ap (rest_of c.args.negative c.args.u) c.multiple-m.ensures)
