@@ -9,21 +9,15 @@ pub fn copy(from: &[f64], to: &mut [f64])
     requires { length to.old ≡ length from.now }
     ensures { to.new ≡ from.now }
 {
-    let mut i = 0;
-    while i < from.len() {
-        to[i] = from[i];
-        i += 1;
-    }
+    to.copy_from_slice(from);
 }
 
 // Multiplies the entries from `first` on.
 pub fn multiply_from(c: &mut [f64], first: usize, factor: f64)
     ensures { c.new ≡ times_from first factor c.old }
 {
-    let mut i = first;
-    while i < c.len() {
-        c[i] = c[i] * factor;
-        i += 1;
+    for i in first..c.len() {
+        c[i] *= factor;
     }
 }
 
@@ -31,10 +25,8 @@ pub fn multiply_from(c: &mut [f64], first: usize, factor: f64)
 pub fn divide_from(c: &mut [f64], first: usize, divisor: f64)
     ensures { c.new ≡ over_from first divisor c.old }
 {
-    let mut i = first;
-    while i < c.len() {
-        c[i] = c[i] / divisor;
-        i += 1;
+    for i in first..c.len() {
+        c[i] /= divisor;
     }
 }
 
@@ -43,10 +35,8 @@ pub fn add(c: &mut [f64], other: &[f64])
     requires { length other.now ≡ length c.old }
     ensures { c.new ≡ plus c.old other.now }
 {
-    let mut i = 0;
-    while i < c.len() {
+    for i in 0..c.len() {
         c[i] += other[i];
-        i += 1;
     }
 }
 
@@ -55,10 +45,8 @@ pub fn energy(c: &[f64]) -> f64
     ensures { result ≡ energy_of c.now }
 {
     let mut sum = 0.0;
-    let mut i = 0;
-    while i < c.len() {
-        sum += c[i] * c[i];
-        i += 1;
+    for x in c {
+        sum += *x * *x;
     }
     sum
 }

@@ -8,9 +8,6 @@ use Rattle.vectors.proofs.add.Goals as goal
 pub loop-i-init : goal.loop-i-init
 loop-i-init c = (omega arith, refl, refl)
 
-pub loop-i-smaller : goal.loop-i-smaller
-loop-i-smaller c = simp length-set (omega arith)
-
 pub loop-i-preserved : goal.loop-i-preserved
 loop-i-preserved c =
     (simp length-set (omega arith), simp length-set (omega arith), plus_turn c.loop-i.c c.args.other.now c.loop-i.i (omega arith) (omega arith) ∙ c.loop-i.invariant.2)

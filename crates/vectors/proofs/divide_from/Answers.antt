@@ -12,9 +12,6 @@ pub loop-i-init : goal.loop-i-init
 unfolding over_from
 loop-i-init c = (refl, refl)
 
-pub loop-i-smaller : goal.loop-i-smaller
-loop-i-smaller c = simp length-set (omega arith)
-
 pub loop-i-preserved : goal.loop-i-preserved
 loop-i-preserved c =
     (length-set c.loop-i.c c.loop-i.i _ ∙ c.loop-i.invariant.0, map_turn (λ (x : Float). x ⊘ c.args.divisor) c.loop-i.c c.loop-i.i (omega arith) ∙ c.loop-i.invariant.1)
