@@ -18,20 +18,6 @@ pub struct Wave {
     pub eighth: f64,
 }
 
-// The first entry after eight passes, and the wave at the second.
-#[derive(Clone, Copy)]
-pub struct Started {
-    pub first: f64,
-    pub wave: Wave,
-}
-
-// What the eighth pass made at the first of two entries, and the wave at the second.
-#[derive(Clone, Copy)]
-struct Two {
-    eighth: f64,
-    wave: Wave,
-}
-
 // The wave at the entry v.
 fn step(w: Wave, alpha: f64, v: f64) -> Wave
     ensures { (result.input ≡ v) × (made_by result ≡ outputs alpha w.input v (made_by w)) }
@@ -58,9 +44,9 @@ fn step(w: Wave, alpha: f64, v: f64) -> Wave
 }
 
 // The waves at the entries v and u, one after the other. The passes make a1 to a8 at v and b1 to b8 at u: a pass at u needs the same
-// one at v and the one before it at u, so that the two chains run side by side.
-fn two_steps(w: Wave, alpha: f64, v: f64, u: f64) -> Two
-    ensures { (result.wave.input ≡ u) × (result.eighth ≡ last_or v (outputs alpha w.input v (made_by w))) × (made_by result.wave ≡ outputs alpha v u (outputs alpha w.input v (made_by w))) }
+// one at v and the one before it at u, so that the two chains run side by side. Answers what the eighth pass made at v, and the wave at u.
+fn two_steps(w: Wave, alpha: f64, v: f64, u: f64) -> (f64, Wave)
+    ensures { (result.1.input ≡ u) × (result.0 ≡ last_or v (outputs alpha w.input v (made_by w))) × (made_by result.1 ≡ outputs alpha v u (outputs alpha w.input v (made_by w))) }
 {
     let a1 = w.input + alpha * (v - w.first);
     let a2 = w.first + alpha * (a1 - w.second);
@@ -89,20 +75,21 @@ fn two_steps(w: Wave, alpha: f64, v: f64, u: f64) -> Two
         seventh: b7,
         eighth: b8,
     };
-    Two { eighth: a8, wave }
+    (a8, wave)
 }
 
 // The wave from the third entry on, two entries a turn, and then the last where one is left.
+// A while: `as_chunks_mut` says nothing of what the slice ends as, and a `step_by` was tried: it leaves by two ways, and no longer shows what is left.
 fn sweep_in(g: &mut [f64], alpha: f64, mut w: Wave)
     requires { 2 ≤ length g.old }
     ensures { g.new ≡ take 2 g.old ++ swept alpha w.input (made_by w) (drop 2 g.old) }
 {
     let mut j = 2;
     while g.len() - j >= 2 {
-        let two = two_steps(w, alpha, g[j], g[j + 1]);
-        w = two.wave;
-        g[j] = two.eighth;
-        g[j + 1] = w.eighth;
+        let (here, next) = two_steps(w, alpha, g[j], g[j + 1]);
+        g[j] = here;
+        g[j + 1] = next.eighth;
+        w = next;
         j += 2;
     }
     if j < g.len() {
@@ -111,10 +98,10 @@ fn sweep_in(g: &mut [f64], alpha: f64, mut w: Wave)
     }
 }
 
-// The first two entries of eight passes that take x in, pass by pass.
-fn start(first: f64, second: f64, alpha: f64, x: &[f64]) -> Started
+// The first two entries of eight passes that take x in, pass by pass: the first after all of them, and the wave at the second.
+fn start(first: f64, second: f64, alpha: f64, x: &[f64]) -> (f64, Wave)
     requires { length x.now ≡ 8 }
-    ensures { (result.first ≡ first_after alpha x.now first) × (result.wave.input ≡ second) × (made_by result.wave ≡ seconds_of alpha x.now first second) }
+    ensures { (result.0 ≡ first_after alpha x.now first) × (result.1.input ≡ second) × (made_by result.1 ≡ seconds_of alpha x.now first second) }
 {
     let aa = 1.0 - alpha * alpha;
     let f1 = x[0] + alpha * first;
@@ -144,7 +131,7 @@ fn start(first: f64, second: f64, alpha: f64, x: &[f64]) -> Started
         seventh: s7,
         eighth: s8,
     };
-    Started { first: f8, wave }
+    (f8, wave)
 }
 
 // Eight passes, which take x in.
@@ -152,9 +139,8 @@ pub fn eight_in(g: &mut [f64], alpha: f64, x: &[f64])
     requires { (2 ≤ length g.old) × (length x.now ≡ 8) }
     ensures { g.new ≡ wave_of alpha x.now g.old }
 {
-    let started = start(g[0], g[1], alpha, x);
-    let wave = started.wave;
-    g[0] = started.first;
+    let (first, wave) = start(g[0], g[1], alpha, x);
+    g[0] = first;
     g[1] = wave.eighth;
     sweep_in(g, alpha, wave);
 }

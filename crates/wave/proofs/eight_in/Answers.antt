@@ -11,4 +11,4 @@ shape_of-g c = simp length-set at c.sweep_in.auto.g
 
 pub returns : goal.returns
 returns c =
-    c.sweep_in.ensures ∙ wave_stored c.args.alpha _ _ (made_by c.start-started.result.wave) c.args.x.now c.args.g.now (omega arith) c.start-started.ensures.0 c.start-started.ensures.1 c.start-started.ensures.2
+    c.sweep_in.ensures ∙ wave_stored c.args.alpha _ _ (made_by c.start-first.result.1) c.args.x.now c.args.g.now (omega arith) c.start-first.ensures.0 c.start-first.ensures.1 c.start-first.ensures.2

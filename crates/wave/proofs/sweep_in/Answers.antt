@@ -15,7 +15,7 @@ loop-g-smaller c = simp length-set (omega arith)
 
 pub loop-g-preserved : goal.loop-g-preserved
 loop-g-preserved c =
-    let turn = two_stored c.args.alpha c.loop-g.w.input c.two_steps-two.result.wave.input c.two_steps-two.result.eighth c.two_steps-two.result.wave.eighth (made_by c.loop-g.w) (made_by c.two_steps-two.result.wave) c.loop-g.g c.loop-g.j (omega arith) c.two_steps-two.ensures.1 c.two_steps-two.ensures.0 refl c.two_steps-two.ensures.2 in
+    let turn = two_stored c.args.alpha c.loop-g.w.input c.two_steps-here.result.1.input c.two_steps-here.result.0 c.two_steps-here.result.1.eighth (made_by c.loop-g.w) (made_by c.two_steps-here.result.1) c.loop-g.g c.loop-g.j (omega arith) c.two_steps-here.ensures.1 c.two_steps-here.ensures.0 refl c.two_steps-here.ensures.2 in
     (simp length-set (omega arith), simp length-set (omega arith), turn ∙ c.loop-g.invariant.2)
 
 pub returns-then-j-g : goal.returns-then-j-g
