@@ -10,10 +10,9 @@ fn unwarp(c: &[f64], alpha: f64, b: &mut [f64])
     requires { (1 ≤ length c.now) × (length b.old ≡ length c.now) }
     ensures { b.new ≡ unwarped alpha c.now }
 {
-    let mut i = c.len() - 1;
-    b[i] = c[i];
-    while 0 < i {
-        i -= 1;
+    let last = c.len() - 1;
+    b[last] = c[last];
+    for i in (0..last).rev() {
         b[i] = c[i] - alpha * b[i + 1];
     }
 }
@@ -30,18 +29,16 @@ pub fn mc2b(c: &[f64], alpha: f64, b: &mut [f64])
     }
 }
 
-// A pass of freqt from its third entry on. `old` and `new` are the entry before g[j], as it was and as it is.
+// A pass of freqt from its third entry on. `old` and `new` are the entry before it, as it was and as it is.
 fn onward_in(g: &mut [f64], alpha: f64, mut old: f64, mut new: f64)
     requires { 2 ≤ length g.old }
     ensures { g.new ≡ take 2 g.old ++ onward alpha old new (drop 2 g.old) }
 {
-    let mut j = 2;
-    while j < g.len() {
-        let here = g[j];
+    for x in &mut g[2..] {
+        let here = *x;
         new = old + alpha * (here - new);
-        g[j] = new;
+        *x = new;
         old = here;
-        j += 1;
     }
 }
 
@@ -59,39 +56,18 @@ fn pass_in(g: &mut [f64], alpha: f64, x: f64)
     onward_in(g, alpha, second, new);
 }
 
-// The passes, eight at a time as long as there are eight. Answers how many coefficients went in.
-fn eights_in(g: &mut [f64], alpha: f64, c: &[f64]) -> usize
-    requires { 2 ≤ length g.old }
-    ensures { (result ≤ length c.now) × (passes alpha (drop result c.now) g.new ≡ passes alpha c.now g.old) }
-{
-    let mut i = 0;
-    while c.len() - i >= 8 {
-        let next = i + 8;
-        wave::eight_in(g, alpha, &c[i..next]);
-        i = next;
-    }
-    i
-}
-
-// The passes one by one.
-fn singles_in(g: &mut [f64], alpha: f64, c: &[f64])
-    requires { 2 ≤ length g.old }
-    ensures { g.new ≡ passes alpha c.now g.old }
-{
-    let mut i = 0;
-    while i < c.len() {
-        pass_in(g, alpha, c[i]);
-        i += 1;
-    }
-}
-
-// The warped cepstrum, of 576 entries.
+// The warped cepstrum, of 576 entries: the passes eight at a time, and then those that are left one by one.
 pub fn freqt(c: &[f64], alpha: f64) -> [f64; 576]
     ensures { result ≡ freqt_of alpha 576 c.now }
 {
     let mut g = [0.0; 576];
-    let done = eights_in(&mut g, alpha, c);
-    singles_in(&mut g, alpha, &c[done..]);
+    let (eights, rest) = c.as_chunks::<8>();
+    for x in eights {
+        wave::eight_in(&mut g, alpha, x);
+    }
+    for x in rest {
+        pass_in(&mut g, alpha, *x);
+    }
     g
 }
 
@@ -101,10 +77,8 @@ pub fn weights(c: &[f64; 576]) -> [f64; 576]
     ensures { result ≡ weights_of 576 c.now }
 {
     let mut w = [0.0; 576];
-    let mut k = 0;
-    while k < 576 {
+    for k in 0..576 {
         w[k] = k as f64 * c[k];
-        k += 1;
     }
     w
 }
@@ -115,10 +89,8 @@ fn ir_sum(w: &[f64], ir: &[f64], n: usize) -> f64
     ensures { result ≡ sum_from (weighed_term w.now ir.now n) 1 n 0f }
 {
     let mut d = 0.0;
-    let mut k = 1;
-    while k <= n {
+    for k in 1..n + 1 {
         d += w[k] * ir[n - k];
-        k += 1;
     }
     d
 }
@@ -131,10 +103,8 @@ pub fn c2ir(c: &[f64; 576]) -> [f64; 576]
     let w = weights(c);
     let mut ir = [0.0; 576];
     ir[0] = exponential::exp(c[0]);
-    let mut n = 1;
-    while n < 576 {
+    for n in 1..576 {
         ir[n] = ir_sum(&w, &ir, n) / n as f64;
-        n += 1;
     }
     ir
 }

@@ -10,10 +10,9 @@ pub fn b2mc(b: &[f64], alpha: f64, c: &mut [f64])
     requires { (1 ≤ length b.now) × (length c.old ≡ length b.now) }
     ensures { c.new ≡ b2mc_of alpha b.now }
 {
-    let mut i = b.len() - 1;
-    c[i] = b[i];
-    while 0 < i {
-        i -= 1;
+    let last = b.len() - 1;
+    c[last] = b[last];
+    for i in (0..last).rev() {
         c[i] = b[i] + alpha * b[i + 1];
     }
 }

@@ -8,6 +8,3 @@ use Rattle.cepstrum.proofs.cepstrum.ir_sum.Given as goal
 
 abbrev pub invariant-loop-k : goal.invariant-loop-k
 invariant-loop-k l = (1 ≤ l.k) × (sum_from (weighed_term l.w l.ir l.n) l.k (l.n + 1 - l.k) l.d ≡ sum_from (weighed_term l.w l.ir l.n) 1 l.n 0f)
-
-abbrev pub decreases-loop-k : goal.decreases-loop-k
-decreases-loop-k l = l.n + 1 - l.k

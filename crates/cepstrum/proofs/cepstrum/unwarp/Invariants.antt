@@ -7,6 +7,3 @@ use Rattle.cepstrum.proofs.cepstrum.unwarp.Given as goal
 
 abbrev pub invariant-loop-i : goal.invariant-loop-i
 invariant-loop-i l = (l.i < length l.c) × (length l.b ≡ length l.c) × (drop l.i l.b ≡ unwarped l.alpha (drop l.i l.c))
-
-abbrev pub decreases-loop-i : goal.decreases-loop-i
-decreases-loop-i l = l.i

@@ -1,6 +1,6 @@
 -- `weights` meets its contract: the first k weights are made. Assumes nothing.
 use mathlib.Core.Path.{◌≡◌}
-use Prim.Native.Nat.{◌-◌, ◌≤◌}
+use Prim.Native.Nat.{◌≤◌}
 use lib.ListN.{length, replicate}
 use Rattle.number.specs.F64.{0f}
 use Rattle.number.specs.Lists.{over}
@@ -9,6 +9,3 @@ use Rattle.cepstrum.proofs.cepstrum.weights.Given as goal
 
 abbrev pub invariant-loop-k : goal.invariant-loop-k
 invariant-loop-k l = (l.k ≤ 576) × (length l.w ≡ 576) × (l.w ≡ over (weights_of l.k l.c) l.k (replicate 576 0f))
-
-abbrev pub decreases-loop-k : goal.decreases-loop-k
-decreases-loop-k l = 576 - l.k

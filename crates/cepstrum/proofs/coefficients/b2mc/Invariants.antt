@@ -7,6 +7,3 @@ use Rattle.cepstrum.proofs.coefficients.b2mc.Given as goal
 
 abbrev pub invariant-loop-i : goal.invariant-loop-i
 invariant-loop-i l = (l.i < length l.b) × (length l.c ≡ length l.b) × (drop l.i l.c ≡ b2mc_of l.alpha (drop l.i l.b))
-
-abbrev pub decreases-loop-i : goal.decreases-loop-i
-decreases-loop-i l = l.i
