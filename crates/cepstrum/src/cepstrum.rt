@@ -73,7 +73,6 @@ pub fn freqt(c: &[f64], alpha: f64) -> [f64; 576]
 
 // k * c[k] for each k.
 pub fn weights(c: &[f64; 576]) -> [f64; 576]
-    requires { length c.now ≡ 576 }
     ensures { result ≡ weights_of 576 c.now }
 {
     let mut w = [0.0; 576];
@@ -97,7 +96,6 @@ fn ir_sum(w: &[f64], ir: &[f64], n: usize) -> f64
 
 // The impulse response of a cepstrum, both of 576 entries.
 pub fn c2ir(c: &[f64; 576]) -> [f64; 576]
-    requires { length c.now ≡ 576 }
     ensures { result ≡ c2ir_of 576 c.now }
 {
     let w = weights(c);

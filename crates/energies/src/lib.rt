@@ -14,21 +14,21 @@ use cepstrum::cepstrum::weights;
 use cepstrum::coefficients::b2c;
 use lost::{later, unmoved};
 
-// A number for each of the two.
-#[derive(Clone, Copy)]
-pub struct Both {
-    pub first: f64,
-    pub second: f64,
-}
-
 // Of both, the sum d with the terms w[k] * r[n - k] added, k from `from` to below `to`. Two terms a turn, so that the two sums stay side by side in one register.
-fn terms(w: &[f64], r: &[f64], n: usize, from: usize, to: usize, d: Both) -> Both
-    requires { (n < 576) × (from ≤ to) × (to ≤ n + 1) × (length w.now ≡ 1152) × (length r.now ≡ 1152) }
-    ensures { (result.first ≡ sum_from (weighed_term (evens w.now) (evens r.now) n) from (to - from) d.first) × (result.second ≡ sum_from (weighed_term (odds w.now) (odds r.now) n) from (to - from) d.second) }
+// A while: its k shows after it whether a term is left, which no `step_by` hands on.
+fn terms(
+    w: &[f64; 1152],
+    r: &[f64; 1152],
+    n: usize,
+    from: usize,
+    to: usize,
+    d: (f64, f64),
+) -> (f64, f64)
+    requires { (n < 576) × (from ≤ to) × (to ≤ n + 1) }
+    ensures { (result.0 ≡ sum_from (weighed_term (evens w.now) (evens r.now) n) from (to - from) d.0) × (result.1 ≡ sum_from (weighed_term (odds w.now) (odds r.now) n) from (to - from) d.1) }
 {
     let last = 2 * n;
-    let mut first = d.first;
-    let mut second = d.second;
+    let (mut first, mut second) = d;
     let mut k = from;
     while k + 1 < to {
         let i = 2 * k;
@@ -43,45 +43,38 @@ fn terms(w: &[f64], r: &[f64], n: usize, from: usize, to: usize, d: Both) -> Bot
         first += w[i] * r[j];
         second += w[i + 1] * r[j + 1];
     }
-    Both { first, second }
+    (first, second)
 }
 
 // For each place the latest pattern, so the largest size, of the entries from there on.
 fn tops(w: &[f64; 1152]) -> [u64; 1152]
-    requires { length w.now ≡ 1152 }
     ensures { Tops 1152 result w.now }
 {
     let mut tops = [0; 1152];
     let mut top = 0;
-    let mut left = 1152;
-    while left > 0 {
-        left -= 1;
-        top = later(top, w[left]);
-        tops[left] = top;
+    for i in (0..1152).rev() {
+        top = later(top, w[i]);
+        tops[i] = top;
     }
     tops
 }
 
 // Of both, the sum of w[k] * r[n - k] for k from 1 to n. After every 32 terms it is seen whether any later one can still change either sum: those from
 // k on have a weight of tops[2 * k] at most, and a response of `high`.
-fn sums(w: &[f64], tops: &[u64], r: &[f64], high: u64, n: usize) -> Both
-    requires n_bound { (n < 576) × (length w.now ≡ 1152) × (length tops.now ≡ 1152) × (length r.now ≡ 1152) }
+// A while: the terms after it begin at its k, which no `step_by` hands on.
+fn sums(w: &[f64; 1152], tops: &[u64; 1152], r: &[f64; 1152], high: u64, n: usize) -> (f64, f64)
+    requires n_bound { n < 576 }
     requires tops { Tops 1152 tops.now w.now × Highest high n r.now }
-    ensures { (result.first ≡ sum_from (weighed_term (evens w.now) (evens r.now) n) 1 n 0f) × (result.second ≡ sum_from (weighed_term (odds w.now) (odds r.now) n) 1 n 0f) }
+    ensures { (result.0 ≡ sum_from (weighed_term (evens w.now) (evens r.now) n) 1 n 0f) × (result.1 ≡ sum_from (weighed_term (odds w.now) (odds r.now) n) 1 n 0f) }
 {
-    let mut d = Both {
-        first: 0.0,
-        second: 0.0,
-    };
+    let mut d = (0.0, 0.0);
     let mut k = 1;
     while k + 32 <= n {
         d = terms(w, r, n, k, k + 32, d);
         k += 32;
         let top = tops[2 * k];
-        if unmoved(d.first, top, high) {
-            if unmoved(d.second, top, high) {
-                return d;
-            }
+        if unmoved(d.0, top, high) && unmoved(d.1, top, high) {
+            return d;
         }
     }
     terms(w, r, n, k, n + 1, d)
@@ -89,23 +82,19 @@ fn sums(w: &[f64], tops: &[u64], r: &[f64], high: u64, n: usize) -> Both
 
 // The two lists in one, entry i of both at 2 * i and 2 * i + 1.
 fn interleaved(one: &[f64; 576], other: &[f64; 576]) -> [f64; 1152]
-    requires { (length one.now ≡ 576) × (length other.now ≡ 576) }
     ensures { (evens result ≡ one.now) × (odds result ≡ other.now) }
 {
     let mut both = [0.0; 1152];
-    let mut i = 0;
-    while i < 576 {
+    for i in 0..576 {
         both[2 * i] = one[i];
         both[2 * i + 1] = other[i];
-        i += 1;
     }
     both
 }
 
 // The energies of the impulse responses r1 and r2 of two cepstra, all of 576 entries. r is both, interleaved as the sums read them.
-fn responses(c1: &[f64; 576], c2: &[f64; 576]) -> Both
-    requires { (length c1.now ≡ 576) × (length c2.now ≡ 576) }
-    ensures { (result.first ≡ energy_of (c2ir_of 576 c1.now)) × (result.second ≡ energy_of (c2ir_of 576 c2.now)) }
+fn responses(c1: &[f64; 576], c2: &[f64; 576]) -> (f64, f64)
+    ensures { (result.0 ≡ energy_of (c2ir_of 576 c1.now)) × (result.1 ≡ energy_of (c2ir_of 576 c2.now)) }
 {
     let w1 = weights(c1);
     let w2 = weights(c2);
@@ -121,27 +110,23 @@ fn responses(c1: &[f64; 576], c2: &[f64; 576]) -> Both
     r[0] = gain1;
     r[1] = gain2;
     let mut high = later(later(0, gain1), gain2);
-    let mut n = 1;
-    while n < 576 {
+    for n in 1..576 {
         let d = sums(&w, &tops, &r, high, n);
-        let next1 = d.first / n as f64;
-        let next2 = d.second / n as f64;
+        let next1 = d.0 / n as f64;
+        let next2 = d.1 / n as f64;
         r1[n] = next1;
         r2[n] = next2;
         r[2 * n] = next1;
         r[2 * n + 1] = next2;
         high = later(later(high, next1), next2);
-        n += 1;
     }
-    let first = vectors::energy(&r1);
-    let second = vectors::energy(&r2);
-    Both { first, second }
+    (vectors::energy(&r1), vectors::energy(&r2))
 }
 
 // The energies of b1 and b2.
-pub fn b2en_both(b1: &[f64], b2: &[f64], alpha: f64) -> Both
+pub fn b2en_both(b1: &[f64], b2: &[f64], alpha: f64) -> (f64, f64)
     requires { (1 ≤ length b1.now) × (length b1.now ≤ 64) × (1 ≤ length b2.now) × (length b2.now ≤ 64) }
-    ensures { (result.first ≡ b2en_of alpha b1.now) × (result.second ≡ b2en_of alpha b2.now) }
+    ensures { (result.0 ≡ b2en_of alpha b1.now) × (result.1 ≡ b2en_of alpha b2.now) }
 {
     let c1 = b2c(b1, alpha);
     let c2 = b2c(b2, alpha);

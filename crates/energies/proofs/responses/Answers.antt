@@ -4,7 +4,7 @@ use mathlib.Core.List.{List}
 use Prim.Native.Nat.{◌+◌, ◌*◌, ◌<◌}
 use native.Mathlib.Omega.{arith}
 use lib.Ieee.{Float}
-use lib.ListN.{length, set, replicate, length-set}
+use lib.ListN.{set, replicate, length-set}
 use Rattle.number.specs.F64.{0f}
 use Rattle.number.proofs.Floats.{small_float}
 use Rattle.vectors.specs.Vectors.{sum_from, grown, energy_of}
@@ -13,7 +13,6 @@ use Rattle.cepstrum.proofs.CepstrumLaws.{made_more, made_all}
 use Rattle.energies.specs.Pairs.{evens, odds}
 use Rattle.energies.proofs.PairLaws.{paired_set, paired_zeros}
 use Rattle.energies.proofs.TopLaws.{highest_more}
-use borrow.Author.Rules.{rules}
 use Rattle.energies.proofs.responses.Goals as goal
 
 pub loop-n-init : goal.loop-n-init
@@ -27,9 +26,7 @@ loop-n-init c =
 
 pub sums-d-requires : goal.sums-d-requires
 sums-d-requires c =
-    let fits : length c.interleaved-w.result ≡ 1152 = search rules in
-    let many : length c.tops-tops.result ≡ 1152 = search rules in
-    record { n_bound = (omega arith, fits, many, c.loop-n.invariant.2); tops = (c.tops-tops.ensures, c.loop-n.invariant.6) }
+    record { n_bound = omega arith; tops = (c.tops-tops.ensures, c.loop-n.invariant.6) }
 
 pub int_to_float-next1 : goal.int_to_float-next1
 int_to_float-next1 c = small_float _ (omega arith)
@@ -42,8 +39,8 @@ loop-n-preserved c =
     let more : c.loop-n.n < 576 = c.loop-n-test.true in
     let sum1 = c.sums-d.ensures.0 ∙ ap (λ (l : List Float). sum_from (weighed_term (evens c.interleaved-w.result) l c.loop-n.n) 1 c.loop-n.n 0f) c.loop-n.invariant.5.0 in
     let sum2 = c.sums-d.ensures.1 ∙ ap (λ (l : List Float). sum_from (weighed_term (odds c.interleaved-w.result) l c.loop-n.n) 1 c.loop-n.n 0f) c.loop-n.invariant.5.1 in
-    let first = made_more c.args.c1.now (evens c.interleaved-w.result) c.loop-n.r1 c.loop-n.n c.sums-d.result.first (c.interleaved-w.ensures.0 ∙ c.weights-w1.ensures) sum1 c.loop-n.invariant.3 (omega arith) (omega arith) in
-    let second = made_more c.args.c2.now (odds c.interleaved-w.result) c.loop-n.r2 c.loop-n.n c.sums-d.result.second (c.interleaved-w.ensures.1 ∙ c.weights-w2.ensures) sum2 c.loop-n.invariant.4 (omega arith) (omega arith) in
+    let first = made_more c.args.c1.now (evens c.interleaved-w.result) c.loop-n.r1 c.loop-n.n c.sums-d.result.0 (c.interleaved-w.ensures.0 ∙ c.weights-w1.ensures) sum1 c.loop-n.invariant.3 (omega arith) (omega arith) in
+    let second = made_more c.args.c2.now (odds c.interleaved-w.result) c.loop-n.r2 c.loop-n.n c.sums-d.result.1 (c.interleaved-w.ensures.1 ∙ c.weights-w2.ensures) sum2 c.loop-n.invariant.4 (omega arith) (omega arith) in
     let high = highest_more c.loop-n.high c.later-in-loop-n.result c.later-high-in-loop-n.result c.loop-n.n c.loop-n.r _ _ (omega (arith, c.loop-n.invariant.2)) c.later-in-loop-n.ensures.0 c.later-in-loop-n.ensures.1 c.later-high-in-loop-n.ensures.0 c.later-high-in-loop-n.ensures.1 c.loop-n.invariant.6 in
     (omega arith, omega arith, length-set (set c.loop-n.r (2 * c.loop-n.n) _) (2 * c.loop-n.n + 1) _ ∙ length-set c.loop-n.r (2 * c.loop-n.n) _ ∙ c.loop-n.invariant.2, first, second, paired_set c.loop-n.r c.loop-n.r1 c.loop-n.r2 c.loop-n.n _ _ c.loop-n.invariant.5, high)
 
@@ -52,4 +49,4 @@ returns c =
     let all : c.loop-n.n ≡ 576 = omega arith in
     let first = made_all c.args.c1.now c.loop-n.r1 c.loop-n.n all c.loop-n.invariant.3 in
     let second = made_all c.args.c2.now c.loop-n.r2 c.loop-n.n all c.loop-n.invariant.4 in
-    (c.energy-first.ensures ∙ ap energy_of first, c.energy-second.ensures ∙ ap energy_of second)
+    (c.energy.ensures ∙ ap energy_of first, c.energy-2.ensures ∙ ap energy_of second)

@@ -24,11 +24,11 @@ module _ (c : After-terms-d) where
   abbrev odd_term : ℕ → Float
   odd_term = weighed_term (odds c.args.w.now) (odds c.args.r.now) c.args.n
 
-  even_more : sum_from even_term (c.loop-k.k + 32) (c.args.n + 1 - (c.loop-k.k + 32)) c.terms-d.result.first ≡ sum_from even_term 1 c.args.n 0f
-  even_more = sum_cut even_term c.loop-k.k (c.loop-k.k + 32) (c.args.n + 1) c.loop-k.d.first c.terms-d.result.first (omega arith) (omega arith) c.terms-d.ensures.0 ∙ c.loop-k.invariant.2
+  even_more : sum_from even_term (c.loop-k.k + 32) (c.args.n + 1 - (c.loop-k.k + 32)) c.terms-d.result.0 ≡ sum_from even_term 1 c.args.n 0f
+  even_more = sum_cut even_term c.loop-k.k (c.loop-k.k + 32) (c.args.n + 1) c.loop-k.d.0 c.terms-d.result.0 (omega arith) (omega arith) c.terms-d.ensures.0 ∙ c.loop-k.invariant.2
 
-  odd_more : sum_from odd_term (c.loop-k.k + 32) (c.args.n + 1 - (c.loop-k.k + 32)) c.terms-d.result.second ≡ sum_from odd_term 1 c.args.n 0f
-  odd_more = sum_cut odd_term c.loop-k.k (c.loop-k.k + 32) (c.args.n + 1) c.loop-k.d.second c.terms-d.result.second (omega arith) (omega arith) c.terms-d.ensures.1 ∙ c.loop-k.invariant.3
+  odd_more : sum_from odd_term (c.loop-k.k + 32) (c.args.n + 1 - (c.loop-k.k + 32)) c.terms-d.result.1 ≡ sum_from odd_term 1 c.args.n 0f
+  odd_more = sum_cut odd_term c.loop-k.k (c.loop-k.k + 32) (c.args.n + 1) c.loop-k.d.1 c.terms-d.result.1 (omega arith) (omega arith) c.terms-d.ensures.1 ∙ c.loop-k.invariant.3
 
 pub returns-then-unmoved-2 : goal.returns-then-unmoved-2
 returns-then-unmoved-2 c =
@@ -37,12 +37,9 @@ returns-then-unmoved-2 c =
     let r = c.args.r.now in
     let n = c.args.n in
     let k = c.loop-k.k + 32 in
-    let even = even_stays w r c.args.tops.now c.args.high n k _ c.terms-d.result.first c.requires.tops.0 c.requires.tops.1 (omega arith) (omega arith) (omega arith) refl (c.unmoved.ensures c.if-unmoved.true) in
-    let odd = odd_stays w r c.args.tops.now c.args.high n k _ c.terms-d.result.second c.requires.tops.0 c.requires.tops.1 (omega arith) (omega arith) (omega arith) refl (c.unmoved-then-unmoved.ensures c.if-unmoved-2.true) in
+    let even = even_stays w r c.args.tops.now c.args.high n k _ c.terms-d.result.0 c.requires.tops.0 c.requires.tops.1 (omega arith) (omega arith) (omega arith) refl (c.unmoved.ensures c.if-unmoved.true) in
+    let odd = odd_stays w r c.args.tops.now c.args.high n k _ c.terms-d.result.1 c.requires.tops.0 c.requires.tops.1 (omega arith) (omega arith) (omega arith) refl (c.unmoved-then-unmoved.ensures c.if-unmoved-2.true) in
     (sym even ∙ even_more made, sym odd ∙ odd_more made)
-
-pub loop-k-preserved-else-unmoved-2 : goal.loop-k-preserved-else-unmoved-2
-loop-k-preserved-else-unmoved-2 c = let made = (goal.at.loop-k-preserved-else-unmoved-2 c).After-terms-d in (omega arith, omega arith, even_more made, odd_more made)
 
 pub loop-k-preserved : goal.loop-k-preserved
 loop-k-preserved c = let made = (goal.at.loop-k-preserved c).After-terms-d in (omega arith, omega arith, even_more made, odd_more made)

@@ -9,7 +9,7 @@ use Rattle.energies.proofs.sums.Given as goal
 
 abbrev pub invariant-loop-k : goal.invariant-loop-k
 invariant-loop-k l =
-    (1 ≤ l.k) × (l.k ≤ l.n + 1) × (sum_from (weighed_term (evens l.w) (evens l.r) l.n) l.k (l.n + 1 - l.k) l.d.first ≡ sum_from (weighed_term (evens l.w) (evens l.r) l.n) 1 l.n 0f) × (sum_from (weighed_term (odds l.w) (odds l.r) l.n) l.k (l.n + 1 - l.k) l.d.second ≡ sum_from (weighed_term (odds l.w) (odds l.r) l.n) 1 l.n 0f)
+    (1 ≤ l.k) × (l.k ≤ l.n + 1) × (sum_from (weighed_term (evens l.w) (evens l.r) l.n) l.k (l.n + 1 - l.k) l.d.0 ≡ sum_from (weighed_term (evens l.w) (evens l.r) l.n) 1 l.n 0f) × (sum_from (weighed_term (odds l.w) (odds l.r) l.n) l.k (l.n + 1 - l.k) l.d.1 ≡ sum_from (weighed_term (odds l.w) (odds l.r) l.n) 1 l.n 0f)
 
 abbrev pub decreases-loop-k : goal.decreases-loop-k
 decreases-loop-k l = l.n - l.k

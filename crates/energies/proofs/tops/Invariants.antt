@@ -5,8 +5,5 @@ use lib.ListN.{length}
 use Rattle.energies.proofs.TopLaws.{TopsFrom}
 use Rattle.energies.proofs.tops.Given as goal
 
-abbrev pub invariant-loop-left : goal.invariant-loop-left
-invariant-loop-left l = (l.left ≤ 1152) × (length l.tops ≡ 1152) × TopsFrom l.left l.top l.tops l.w
-
-abbrev pub decreases-loop-left : goal.decreases-loop-left
-decreases-loop-left l = l.left
+abbrev pub invariant-loop-i : goal.invariant-loop-i
+invariant-loop-i l = (l.i ≤ 1152) × (length l.tops ≡ 1152) × TopsFrom l.i l.top l.tops l.w
