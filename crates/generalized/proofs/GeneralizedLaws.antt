@@ -11,8 +11,7 @@ use Rattle.number.specs.Lists.{over}
 use Rattle.number.proofs.Lists.{over_more}
 use Rattle.vectors.specs.Vectors.{sum_from, grown, times_from, over_from}
 use Rattle.vectors.proofs.VectorLaws.{sum_same, length_grown, grown_more}
-use Rattle.elementary.specs.declared.answer.Answer.{Answer}
-use Rattle.elementary.specs.declared.answer.Answer.TheVariants as answer
+use Rattle.std.specs.Prelude.{Ok, Err}
 use Rattle.elementary.specs.Outcome.{Outcome, outside, inside}
 use Rattle.power.specs.Power.{inverse_power_of, inverse_root_of}
 use Rattle.generalized.specs.Generalized.{gamma_of, gnorm_of, ignormed_by, ignorm_of, gc2gc_entry, gc2gc_of, ss1_term, ss2_term, mgc2mgc_of}
@@ -83,24 +82,23 @@ gc2gc_first s (suc (suc n)) c h =
 
 -- ---- what an answer of a power makes of the definitions
 
-module _ (s : ℕ) (c : List Float) (r : Answer) where
-  module _ (k : Float) (e : k ≡ 1f ⊕ gamma_of s ⊗ c ‼ 0) (p : r ≡ inverse_power_of k s) where
-    pub gnorm_outside : r ≡ answer.Outside → gnorm_of s c ≡ outside
+module _ (s : ℕ) (c : List Float) where
+  module _ (k : Float) (e : k ≡ 1f ⊕ gamma_of s ⊗ c ‼ 0) where
+    pub gnorm_outside : Err (record {}) ≡ inverse_power_of k s → gnorm_of s c ≡ outside
     unfolding gnorm_of
-    gnorm_outside o = rw (← e, ← p, o) refl
+    gnorm_outside p = rw (← e, ← p) refl
 
-    pub gnorm_inside : (gain : Float) → r ≡ answer.Inside gain → gnorm_of s c ≡ inside (gain ∷ map (λ x. x ⊘ k) (drop 1 c))
+    pub gnorm_inside : (gain : Float) → Ok gain ≡ inverse_power_of k s → gnorm_of s c ≡ inside (gain ∷ map (λ x. x ⊘ k) (drop 1 c))
     unfolding gnorm_of
-    gnorm_inside gain i = rw (← e, ← p, i) refl
+    gnorm_inside gain p = rw (← e, ← p) refl
 
-  module _ (p : r ≡ inverse_root_of (c ‼ 0) s) where
-    pub ignorm_outside : r ≡ answer.Outside → ignorm_of s c ≡ outside
-    unfolding ignorm_of
-    ignorm_outside o = rw (← p, o) refl
+  pub ignorm_outside : Err (record {}) ≡ inverse_root_of (c ‼ 0) s → ignorm_of s c ≡ outside
+  unfolding ignorm_of
+  ignorm_outside p = rw (← p) refl
 
-    pub ignorm_inside : (k : Float) → r ≡ answer.Inside k → ignorm_of s c ≡ inside (ignormed_by s k c)
-    unfolding ignorm_of
-    ignorm_inside k i = rw (← p, i) refl
+  pub ignorm_inside : (k : Float) → Ok k ≡ inverse_root_of (c ‼ 0) s → ignorm_of s c ≡ inside (ignormed_by s k c)
+  unfolding ignorm_of
+  ignorm_inside k p = rw (← p) refl
 
 -- and of both steps
 module _ (s n : ℕ) (c : List Float) where

@@ -5,7 +5,7 @@ ghost use Rattle.std.specs.Prelude.{◌≡◌, ◌-◌, ◌≤◌, ◌<◌, leng
 ghost use Rattle.elementary.specs.Outcome.{prepared_of, or_else};
 ghost use Rattle.generalized.specs.Generalized.{gamma_of, gnorm_of, ignormed_by, ignorm_of, gc2gc_entry, gc2gc_of, mgc2mgc_of};
 
-use elementary::answer::{Answer, Prepared};
+use elementary::answer::Outside;
 
 // -1 / s.
 pub fn gamma(s: u64) -> f64
@@ -16,21 +16,16 @@ pub fn gamma(s: u64) -> f64
 }
 
 // Normalises the gain. Where the power is outside, c stays.
-pub fn gnorm(c: &mut [f64], s: u64) -> Prepared
+pub fn gnorm(c: &mut [f64], s: u64) -> Result<(), Outside>
     requires { (1 ≤ length c.old) × (s ≤ 8) }
     ensures value { result ≡ prepared_of (gnorm_of s c.old) }
     ensures c_after { c.new ≡ or_else c.old (gnorm_of s c.old) }
 {
     let k = 1.0 + gamma(s) * c[0];
-    let power = power::inverse_power(k, s);
-    match power {
-        Answer::Inside(gain) => {
-            vectors::divide_from(c, 1, k);
-            c[0] = gain;
-            Prepared::Inside
-        }
-        Answer::Outside => Prepared::Outside,
-    }
+    let gain = power::inverse_power(k, s)?;
+    vectors::divide_from(c, 1, k);
+    c[0] = gain;
+    Ok(())
 }
 
 // Takes the normalisation back, by a gain k that is known.
@@ -43,19 +38,14 @@ fn ignorm_by(c: &mut [f64], s: u64, k: f64)
 }
 
 // Takes the normalisation back. Where the power is outside, c stays.
-pub fn ignorm(c: &mut [f64], s: u64) -> Prepared
+pub fn ignorm(c: &mut [f64], s: u64) -> Result<(), Outside>
     requires { (1 ≤ length c.old) × (s ≤ 8) }
     ensures value { result ≡ prepared_of (ignorm_of s c.old) }
     ensures c_after { c.new ≡ or_else c.old (ignorm_of s c.old) }
 {
-    let power = power::inverse_root(c[0], s);
-    match power {
-        Answer::Inside(k) => {
-            ignorm_by(c, s, k);
-            Prepared::Inside
-        }
-        Answer::Outside => Prepared::Outside,
-    }
+    let k = power::inverse_root(c[0], s)?;
+    ignorm_by(c, s, k);
+    Ok(())
 }
 
 // Entry i of gc2gc, from the entries before it in d.
@@ -65,13 +55,11 @@ fn gc2gc_entry(c: &[f64], d: &[f64], gamma: f64, i: usize) -> f64
 {
     let mut ss1 = 0.0;
     let mut ss2 = 0.0;
-    let mut k = 1;
-    while k < i {
+    for k in 1..i {
         let mk = i - k;
         let cc = c[k] * d[mk];
         ss1 += mk as f64 * cc;
         ss2 += k as f64 * cc;
-        k += 1;
     }
     c[i] + (gamma * ss2 - gamma * ss1) / i as f64
 }
@@ -83,31 +71,21 @@ pub fn gc2gc(c: &[f64], s: u64, d: &mut [f64])
 {
     let gamma = gamma(s);
     d[0] = c[0];
-    let mut i = 1;
-    while i < d.len() {
+    for i in 1..d.len() {
         d[i] = gc2gc_entry(c, d, gamma, i);
-        i += 1;
     }
 }
 
 // Normalises c, and makes d of it. The gain of d is that of c, so that d is written only where both powers are inside.
-pub fn mgc2mgc(c: &mut [f64], s: u64, d: &mut [f64]) -> Prepared
+pub fn mgc2mgc(c: &mut [f64], s: u64, d: &mut [f64]) -> Result<(), Outside>
     requires { (1 ≤ length d.old) × (length d.old ≤ length c.old) × (length d.old ≤ 65) × (s ≤ 8) }
     ensures value { result ≡ prepared_of (mgc2mgc_of s (length d.old) c.old) }
     ensures c_after { c.new ≡ or_else c.old (gnorm_of s c.old) }
     ensures d_after { d.new ≡ or_else d.old (mgc2mgc_of s (length d.old) c.old) }
 {
-    let normalised = gnorm(c, s);
-    let Prepared::Inside = normalised else {
-        return Prepared::Outside;
-    };
-    let power = power::inverse_root(c[0], s);
-    match power {
-        Answer::Inside(k) => {
-            gc2gc(c, s, d);
-            ignorm_by(d, s, k);
-            Prepared::Inside
-        }
-        Answer::Outside => Prepared::Outside,
-    }
+    gnorm(c, s)?;
+    let k = power::inverse_root(c[0], s)?;
+    gc2gc(c, s, d);
+    ignorm_by(d, s, k);
+    Ok(())
 }

@@ -14,9 +14,6 @@ pub loop-i-init : goal.loop-i-init
 loop-i-init c =
     (c.gamma-gamma.ensures, omega arith, simp length-set (omega arith), simp length-set (omega arith), simp length-set (omega arith), refl, gc2gc_begin _ c.args.c.now c.args.d.now (omega arith))
 
-pub loop-i-smaller : goal.loop-i-smaller
-loop-i-smaller c = simp length-set (omega arith)
-
 pub loop-i-preserved : goal.loop-i-preserved
 loop-i-preserved c =
     let turn = gc2gc_turn _ c.args.c.now _ c.loop-i.d c.loop-i.i (omega arith) c.loop-i.invariant.6 in

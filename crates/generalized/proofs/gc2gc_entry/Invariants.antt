@@ -8,6 +8,3 @@ use Rattle.generalized.proofs.gc2gc_entry.Given as goal
 
 abbrev pub invariant-loop-k : goal.invariant-loop-k
 invariant-loop-k l = (1 ≤ l.k) × (sum_from (ss1_term l.c l.d l.i) l.k (l.i - l.k) l.ss1 ≡ sum_from (ss1_term l.c l.d l.i) 1 (l.i - 1) 0f) × (sum_from (ss2_term l.c l.d l.i) l.k (l.i - l.k) l.ss2 ≡ sum_from (ss2_term l.c l.d l.i) 1 (l.i - 1) 0f)
-
-abbrev pub decreases-loop-k : goal.decreases-loop-k
-decreases-loop-k l = l.i - l.k
