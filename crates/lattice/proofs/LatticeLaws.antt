@@ -13,13 +13,11 @@ use lib.Seq.{take_all, take-suc-set, drop-set-lt, drop-drop, get_or-drop, append
 use Rattle.number.specs.F64.{◌⊕◌, ◌⊗◌, −◌, ◌‼◌, 0f, ½f, 1f, 2f}
 use Rattle.number.specs.Lists.{over, row}
 use Rattle.number.proofs.Lists.{left_next, left_none, front_turn, front_end, over_known}
-use Rattle.elementary.specs.declared.answer.Answer.{Answer}
-use Rattle.elementary.specs.declared.answer.Answer.TheVariants as answer
+use Rattle.std.specs.Prelude.{Result, Ok, Err}
+use Rattle.elementary.specs.declared.answer.Outside.{Outside}
 use Rattle.elementary.specs.Outcome.{Outcome, outside, inside, ◌then◌, of_answer}
 use Rattle.cosine.specs.Cos.{cos_of}
 use Rattle.cosine.specs.Both.{both_of}
-use Rattle.cosine.specs.declared.Cosines.{Cosines}
-use Rattle.cosine.specs.declared.Cosines.TheVariants as cosines
 use Rattle.lattice.specs.Lattice.{every_other, weights_of, section, inputs, output, a_in, b_in, predicted, lpc_of, lsp2lpc_of}
 
 -- ---- every other entry
@@ -59,15 +57,15 @@ weighed_none l p = go (weights_of l)
     go (inside ps) = refl
 
 module _ (l p : List Float) (i : ℕ) (long : i < length l) (w : Weighed l p i) where
-  next : (r : Answer) → cos_of (l ‼ i) ≡ r → weights_of (drop i l) ≡ (of_answer r then λ y. weights_of (drop (i + 1) l) then λ ps. inside (− 2f ⊗ y ∷ ps))
+  next : (r : Result Float Outside) → cos_of (l ‼ i) ≡ r → weights_of (drop i l) ≡ (of_answer r then λ y. weights_of (drop (i + 1) l) then λ ps. inside (− 2f ⊗ y ∷ ps))
   unfolding weights_of
   next r e = rw (left_next l i nan long, e) refl
 
-  weighed_outside : cos_of (l ‼ i) ≡ answer.Outside → weights_of l ≡ outside
-  weighed_outside o = w ∙ rw (next answer.Outside o) refl
+  weighed_outside : cos_of (l ‼ i) ≡ Err (record {}) → weights_of l ≡ outside
+  weighed_outside o = w ∙ rw (next (Err (record {})) o) refl
 
-  weighed_more : (y : Float) → cos_of (l ‼ i) ≡ answer.Inside y → i < length p → Weighed l (set p i (− 2f ⊗ y)) (i + 1)
-  weighed_more y o h = w ∙ rw (next (answer.Inside y) o) (go (weights_of (drop (i + 1) l)))
+  weighed_more : (y : Float) → cos_of (l ‼ i) ≡ Ok y → i < length p → Weighed l (set p i (− 2f ⊗ y)) (i + 1)
+  weighed_more y o h = w ∙ rw (next (Ok y) o) (go (weights_of (drop (i + 1) l)))
     where
       go : (d : Outcome (List Float)) → (d then (λ ps. inside (− 2f ⊗ y ∷ ps)) then λ ps. inside (take i p ++ ps)) ≡ (d then λ ps. inside (take (i + 1) (set p i (− 2f ⊗ y)) ++ ps))
       go outside = refl
@@ -96,40 +94,41 @@ module _ (lsp : List Float) where
 
 module _ (lsp p : List Float) (i : ℕ) (w : Weighed (every_other lsp) p i) where
   -- the last of the entries, where p has one more
-  module _ (here : 2 * i < length lsp) (r : Answer) (e : r ≡ cos_of (lsp ‼ (2 * i))) where
+  module _ (here : 2 * i < length lsp) where
     even : i < length (every_other lsp)
     even = simp length_every_other (omega arith)
 
-    pub last_outside : r ≡ answer.Outside → lsp2lpc_of lsp ≡ outside
-    last_outside o = outside_even lsp (weighed_outside (every_other lsp) p i even w (rw (every_other_at lsp i here) (sym e ∙ o)))
+    pub last_outside : Err (record {}) ≡ cos_of (lsp ‼ (2 * i)) → lsp2lpc_of lsp ≡ outside
+    last_outside e = outside_even lsp (weighed_outside (every_other lsp) p i even w (rw (every_other_at lsp i here) (sym e)))
 
-    pub last_more : (y : Float) → r ≡ answer.Inside y → i < length p → Weighed (every_other lsp) (set p i (− 2f ⊗ y)) (i + 1)
-    last_more y o h = weighed_more (every_other lsp) p i even w y (rw (every_other_at lsp i here) (sym e ∙ o)) h
+    pub last_more : (y : Float) → Ok y ≡ cos_of (lsp ‼ (2 * i)) → i < length p → Weighed (every_other lsp) (set p i (− 2f ⊗ y)) (i + 1)
+    last_more y e h = weighed_more (every_other lsp) p i even w y (rw (every_other_at lsp i here) (sym e)) h
 
-  module _ (q : List Float) (v : Weighed (every_other (drop 1 lsp)) q i) (here : 2 * i + 1 < length lsp) (r : Cosines) (e : r ≡ both_of (cos_of (lsp ‼ (2 * i))) (cos_of (lsp ‼ (2 * i + 1)))) where
+  module _ (q : List Float) (v : Weighed (every_other (drop 1 lsp)) q i) (here : 2 * i + 1 < length lsp) where
     odd : i < length (every_other (drop 1 lsp))
     odd = simp (length_every_other, length-drop) (omega arith)
 
-    pub turn_outside : r ≡ cosines.Outside → lsp2lpc_of lsp ≡ outside
-    turn_outside o = go (cos_of (lsp ‼ (2 * i))) (cos_of (lsp ‼ (2 * i + 1))) refl refl (sym e ∙ o)
+    pub turn_outside : Err (record {}) ≡ both_of (cos_of (lsp ‼ (2 * i))) (cos_of (lsp ‼ (2 * i + 1))) → lsp2lpc_of lsp ≡ outside
+    turn_outside e = go (cos_of (lsp ‼ (2 * i))) (cos_of (lsp ‼ (2 * i + 1))) refl refl (sym e)
       where
-        go : (a b : Answer) → cos_of (lsp ‼ (2 * i)) ≡ a → cos_of (lsp ‼ (2 * i + 1)) ≡ b → both_of a b ≡ cosines.Outside → lsp2lpc_of lsp ≡ outside
-        go answer.Outside b f g h = last_outside (omega arith) answer.Outside (sym f) refl
-        go (answer.Inside y) answer.Outside f g h = outside_odd lsp (weighed_outside (every_other (drop 1 lsp)) q i odd v (rw (odd_at lsp i here) g))
-        go (answer.Inside y) (answer.Inside z) f g h = let x : ◌≡◌ {A = ℕ} 0 1 = cc in absurd (omega arith)
+        go : (a b : Result Float Outside) → cos_of (lsp ‼ (2 * i)) ≡ a → cos_of (lsp ‼ (2 * i + 1)) ≡ b → both_of a b ≡ Err (record {}) → lsp2lpc_of lsp ≡ outside
+        go (Err o) b f g h = last_outside (omega arith) (sym f)
+        go (Ok y) (Err o) f g h = outside_odd lsp (weighed_outside (every_other (drop 1 lsp)) q i odd v (rw (odd_at lsp i here) g))
+        go (Ok y) (Ok z) f g h = let x : ◌≡◌ {A = ℕ} 0 1 = cc in absurd (omega arith)
 
-    pub turn_more : (y z : Float) → r ≡ cosines.Inside y z → i < length p → i < length q
+    pub turn_more : (y z : Float) → Ok (y, z) ≡ both_of (cos_of (lsp ‼ (2 * i))) (cos_of (lsp ‼ (2 * i + 1))) → i < length p → i < length q
         → Weighed (every_other lsp) (set p i (− 2f ⊗ y)) (i + 1) × Weighed (every_other (drop 1 lsp)) (set q i (− 2f ⊗ z)) (i + 1)
-    turn_more y z o hp hq = go (cos_of (lsp ‼ (2 * i))) (cos_of (lsp ‼ (2 * i + 1))) refl refl (sym e ∙ o)
+    turn_more y z e hp hq = go (cos_of (lsp ‼ (2 * i))) (cos_of (lsp ‼ (2 * i + 1))) refl refl (sym e)
       where
-        go : (a b : Answer) → cos_of (lsp ‼ (2 * i)) ≡ a → cos_of (lsp ‼ (2 * i + 1)) ≡ b → both_of a b ≡ cosines.Inside y z
+        go : (a b : Result Float Outside) → cos_of (lsp ‼ (2 * i)) ≡ a → cos_of (lsp ‼ (2 * i + 1)) ≡ b → both_of a b ≡ Ok (y, z)
             → Weighed (every_other lsp) (set p i (− 2f ⊗ y)) (i + 1) × Weighed (every_other (drop 1 lsp)) (set q i (− 2f ⊗ z)) (i + 1)
-        go answer.Outside b f g h = let x : ◌≡◌ {A = ℕ} 0 1 = cc in absurd (omega arith)
-        go (answer.Inside y') answer.Outside f g h = let x : ◌≡◌ {A = ℕ} 0 1 = cc in absurd (omega arith)
-        go (answer.Inside y') (answer.Inside z') f g h =
-            let y'' : cos_of (lsp ‼ (2 * i)) ≡ answer.Inside y = cc in
-            let z'' : cos_of (lsp ‼ (2 * i + 1)) ≡ answer.Inside z = cc in
-            (last_more (omega arith) (answer.Inside y) (sym y'') y refl hp, weighed_more (every_other (drop 1 lsp)) q i odd v z (rw (odd_at lsp i here) z'') hq)
+        go (Err o) b f g h = let x : ◌≡◌ {A = ℕ} 0 1 = cc in absurd (omega arith)
+        go (Ok y') (Err o) f g h = let x : ◌≡◌ {A = ℕ} 0 1 = cc in absurd (omega arith)
+        go (Ok y') (Ok z') f g h =
+            let pair : (y', z') ≡ (y, z) = cc in
+            let y'' : cos_of (lsp ‼ (2 * i)) ≡ Ok y = f ∙ ap (λ (x : Float × Float). Ok x.0) pair in
+            let z'' : cos_of (lsp ‼ (2 * i + 1)) ≡ Ok z = g ∙ ap (λ (x : Float × Float). Ok x.1) pair in
+            (last_more (omega arith) y (sym y'') hp, weighed_more (every_other (drop 1 lsp)) q i odd v z (rw (odd_at lsp i here) z'') hq)
 
 -- ---- a chain
 

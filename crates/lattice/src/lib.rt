@@ -1,50 +1,33 @@
 // Line spectral pairs to linear prediction, by two chains of sections.
 #![tactic(auto)]
 
-ghost use Rattle.std.specs.Prelude.{◌≡◌, ◌+◌, ◌/◌, ◌≤◌, length, drop, replicate};
+ghost use Rattle.std.specs.Prelude.{◌≡◌, ◌+◌, ◌/◌, ◌≤◌, length, drop, replicate, OnOk, OnErr};
 ghost use Rattle.number.specs.F64.{0f, 1f};
 ghost use Rattle.elementary.specs.Outcome.{outside, inside, prepared_of, or_else};
-ghost use Rattle.elementary.specs.declared.answer.Prepared.TheVariants.{Outside, Inside};
 ghost use Rattle.lattice.specs.Lattice.{every_other, weights_of, inputs, output, a_in, b_in, predicted, lsp2lpc_of};
 
-use cosine::Cosines;
-use elementary::answer::{Answer, Prepared};
+use elementary::answer::Outside;
 
 // -2 cos of the entries 0, 2, .. into p and of 1, 3, .. into q, until one is outside. One of each in a turn, since two cosines last hardly longer than one; where p has one more, it comes last.
-fn weights(lsp: &[f64], p: &mut [f64], q: &mut [f64]) -> Prepared
+fn weights(lsp: &[f64], p: &mut [f64], q: &mut [f64]) -> Result<(), Outside>
     requires { (length p.old ≡ (length lsp.now + 1) / 2) × (length q.old ≡ length lsp.now / 2) × (length lsp.now ≤ 64) }
-    ensures lsp_value { result ≡ Outside → lsp2lpc_of lsp.now ≡ outside }
-    ensures lsp_value_2 { result ≡ Inside → (weights_of (every_other lsp.now) ≡ inside p.new)
-        × (weights_of (every_other (drop 1 lsp.now)) ≡ inside q.new) }
+    ensures lsp_value { OnErr result (lsp2lpc_of lsp.now ≡ outside) }
+    ensures lsp_value_2 { OnOk result ((weights_of (every_other lsp.now) ≡ inside p.new)
+        × (weights_of (every_other (drop 1 lsp.now)) ≡ inside q.new)) }
 {
-    let mut i = 0;
-    while i < q.len() {
+    let half = q.len();
+    for i in 0..half {
         let even = lsp[2 * i];
         let odd = lsp[2 * i + 1];
-        let cosines = cosine::cos_both(even, odd);
-        match cosines {
-            Cosines::Inside(y, z) => {
-                p[i] = -2.0 * y;
-                q[i] = -2.0 * z;
-                i += 1;
-            }
-            Cosines::Outside => {
-                return Prepared::Outside;
-            }
-        }
+        let (y, z) = cosine::cos_both(even, odd)?;
+        p[i] = -2.0 * y;
+        q[i] = -2.0 * z;
     }
-    if i < p.len() {
-        let last = cosine::cos(lsp[2 * i]);
-        match last {
-            Answer::Inside(x) => {
-                p[i] = -2.0 * x;
-            }
-            Answer::Outside => {
-                return Prepared::Outside;
-            }
-        }
+    if half < p.len() {
+        let x = cosine::cos(lsp[2 * half])?;
+        p[half] = -2.0 * x;
     }
-    Prepared::Inside
+    Ok(())
 }
 
 // Sends x through the sections of weights p. a1 and a2 are what went into each of them at the last turn and at the one before it.
@@ -55,13 +38,11 @@ fn chain(x: f64, p: &[f64], a1: &mut [f64], a2: &mut [f64]) -> f64
     ensures a2_after { a2.new ≡ a1.old }
 {
     let mut a0 = x;
-    let mut i = 0;
-    while i < p.len() {
+    for i in 0..p.len() {
         let next = a0 + p[i] * a1[i] + a2[i];
         a2[i] = a1[i];
         a1[i] = a0;
         a0 = next;
-        i += 1;
     }
     a0
 }
@@ -98,15 +79,13 @@ fn predict(
     let mut xx = 1.0;
     let mut xf = 0.0;
     let mut xff = 0.0;
-    let mut k = 0;
-    while k < lpc.len() {
+    for k in 0..lpc.len() {
         let a0 = chain(a_in(odd, xx, xf), p, a1, a2);
         let b0 = chain(b_in(odd, xx, xf, xff), q, b1, b2);
         lpc[k] = -(-0.5 * (a0 + b0));
         xff = xf;
         xf = xx;
         xx = 0.0;
-        k += 1;
     }
 }
 
@@ -120,7 +99,7 @@ fn lpc_in(
     b1: &mut [f64],
     b2: &mut [f64],
     lpc: &mut [f64],
-) -> Prepared
+) -> Result<(), Outside>
     requires lsp_len_bound { (length lsp.now ≤ 64) × (length lpc.old ≡ length lsp.now + 1) }
     requires p_len { (length p.old ≡ (length lsp.now + 1) / 2) × (length q.old ≡ length lsp.now / 2) }
     requires a1_value { (a1.old ≡ replicate (length p.old) 0f) × (a2.old ≡ replicate (length p.old) 0f) }
@@ -128,17 +107,14 @@ fn lpc_in(
     ensures value { result ≡ prepared_of (lsp2lpc_of lsp.now) }
     ensures lpc_after { lpc.new ≡ or_else lpc.old (lsp2lpc_of lsp.now) }
 {
-    let cosines = weights(lsp, p, q);
-    let Prepared::Inside = cosines else {
-        return Prepared::Outside;
-    };
+    weights(lsp, p, q)?;
     predict(lsp.len() % 2 == 1, p, q, a1, a2, b1, b2, lpc);
     lpc[0] = 1.0;
-    Prepared::Inside
+    Ok(())
 }
 
 // Linear prediction of one entry more than there are pairs. Where a cosine is outside, it stays.
-pub fn lsp2lpc(lsp: &[f64], lpc: &mut [f64]) -> Prepared
+pub fn lsp2lpc(lsp: &[f64], lpc: &mut [f64]) -> Result<(), Outside>
     requires { (1 ≤ length lsp.now) × (length lsp.now ≤ 64) × (length lpc.old ≡ length lsp.now + 1) }
     ensures value { result ≡ prepared_of (lsp2lpc_of lsp.now) }
     ensures lpc_after { lpc.new ≡ or_else lpc.old (lsp2lpc_of lsp.now) }

@@ -12,9 +12,6 @@ loop-k-init c =
     let e : n - 0 ≡ n = omega arith in
     (omega arith, refl, omega arith, refl, refl, refl, refl, rw e refl)
 
-pub loop-k-smaller : goal.loop-k-smaller
-loop-k-smaller c = simp length-set (omega arith)
-
 pub loop-k-preserved : goal.loop-k-preserved
 loop-k-preserved c =
     let turn = predict_turn c.args.odd c.args.p.now c.args.q.now c.loop-k.xx c.loop-k.xf c.loop-k.xff c.loop-k.a1 c.loop-k.a2 c.loop-k.b1 c.loop-k.b2 c.loop-k.lpc (length c.args.lpc.now) c.loop-k.k _ _ _ _ _ _ _ _ (omega arith) (omega arith) c.a_in.ensures c.chain-a0.ensures.value c.chain-a0.ensures.a1_after c.chain-a0.ensures.a2_after c.b_in.ensures c.chain-b0.ensures.value c.chain-b0.ensures.a1_after c.chain-b0.ensures.a2_after in
