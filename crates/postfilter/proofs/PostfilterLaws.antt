@@ -11,8 +11,7 @@ use Rattle.number.specs.F64.{◌⊕◌, ◌⊗◌, ◌⊘◌, ◌‼◌, 0f, ½f
 use Rattle.number.specs.Lists.{over}
 use Rattle.number.proofs.Floats.{both_first, both_second}
 use Rattle.number.proofs.Lists.{over_more}
-use Rattle.elementary.specs.declared.answer.Answer.{Answer}
-use Rattle.elementary.specs.declared.answer.Answer.TheVariants as answer
+use Rattle.std.specs.Prelude.{Ok, Err}
 use Rattle.elementary.specs.Outcome.{outside, inside}
 use Rattle.root.specs.Root.{root_of}
 use Rattle.logarithm.specs.Ln.{ln_of}
@@ -42,14 +41,14 @@ module _ (alpha beta : Float) (c : List Float) where
   unfolding postfilter_mcp_of
   mcp_rests e = rw e refl
 
-  module _ (b t : List Float) (e1 e2 : Float) (r : Answer) (eb : b ≡ mc2b_of alpha c) (et : t ≡ sharpened_of alpha beta b) (en1 : e1 ≡ b2en_of alpha b) (en2 : e2 ≡ b2en_of alpha t) (el : r ≡ ln_of (e1 ⊘ e2)) where
-    pub mcp_outside : r ≡ answer.Outside → filtered_mcp alpha beta c ≡ outside
+  module _ (b t : List Float) (e1 e2 : Float) (eb : b ≡ mc2b_of alpha c) (et : t ≡ sharpened_of alpha beta b) (en1 : e1 ≡ b2en_of alpha b) (en2 : e2 ≡ b2en_of alpha t) where
+    pub mcp_outside : Err (record {}) ≡ ln_of (e1 ⊘ e2) → filtered_mcp alpha beta c ≡ outside
     unfolding filtered_mcp
-    mcp_outside o = rw (← eb, ← et, ← en1, ← en2, ← el, o) refl
+    mcp_outside l = rw (← eb, ← et, ← en1, ← en2, ← l) refl
 
-    pub mcp_inside : (y : Float) → r ≡ answer.Inside y → filtered_mcp alpha beta c ≡ inside (b2mc_of alpha (set t 0 (t ‼ 0 ⊕ y ⊘ 2f)))
+    pub mcp_inside : (y : Float) → Ok y ≡ ln_of (e1 ⊘ e2) → filtered_mcp alpha beta c ≡ inside (b2mc_of alpha (set t 0 (t ‼ 0 ⊕ y ⊘ 2f)))
     unfolding filtered_mcp
-    mcp_inside y i = rw (← eb, ← et, ← en1, ← en2, ← el, i) refl
+    mcp_inside y l = rw (← eb, ← et, ← en1, ← en2, ← l) refl
 
 -- ---- of line spectral pairs
 
@@ -69,14 +68,14 @@ module _ (log : Bool) (en1 en2 x : Float) where
     unfolding levelled
     level_root e = rw (d, e) refl
 
-    module _ (e : log ≡ true) (r : Answer) (l : r ≡ ln_of (en1 ⊘ en2)) where
-      pub level_outside : r ≡ answer.Outside → levelled log en1 en2 x ≡ outside
+    module _ (e : log ≡ true) where
+      pub level_outside : Err (record {}) ≡ ln_of (en1 ⊘ en2) → levelled log en1 en2 x ≡ outside
       unfolding levelled
-      level_outside o = rw (d, e, ← l, o) refl
+      level_outside l = rw (d, e, ← l) refl
 
-      pub level_log : (y : Float) → r ≡ answer.Inside y → levelled log en1 en2 x ≡ inside (x ⊕ ½f ⊗ y)
+      pub level_log : (y : Float) → Ok y ≡ ln_of (en1 ⊘ en2) → levelled log en1 en2 x ≡ inside (x ⊕ ½f ⊗ y)
       unfolding levelled
-      level_log y i = rw (d, e, ← l, i) refl
+      level_log y l = rw (d, e, ← l) refl
 
 module _ (beta : Float) (log : Bool) (s : ℕ) (lsp : List Float) where
   pub lsp_acts : acts beta (length lsp) ≡ true → postfilter_lsp_of beta log s lsp ≡ filtered_lsp beta log s lsp

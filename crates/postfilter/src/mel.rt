@@ -6,7 +6,7 @@ ghost use Rattle.postfilter.specs.Mel.{sharpened_of, filtered_mcp, postfilter_mc
 use crate::acting;
 use cepstrum::cepstrum::mc2b;
 use cepstrum::coefficients::b2mc;
-use elementary::answer::{Answer, Prepared};
+use elementary::answer::Outside;
 use energies::b2en_both;
 
 // Sharpens coefficients.
@@ -14,12 +14,12 @@ fn sharpen(b: &mut [f64], alpha: f64, beta: f64)
     requires { 2 < length b.old }
     ensures { b.new ≡ sharpened_of alpha beta b.old }
 {
-    b[1] = b[1] - beta * alpha * b[2];
+    b[1] -= beta * alpha * b[2];
     vectors::multiply_from(b, 2, 1.0 + beta);
 }
 
 // The postfilter where it acts, with room for the coefficients as they are and sharpened.
-fn filter_in(c: &mut [f64], alpha: f64, beta: f64, b: &mut [f64], t: &mut [f64]) -> Prepared
+fn filter_in(c: &mut [f64], alpha: f64, beta: f64, b: &mut [f64], t: &mut [f64]) -> Result<(), Outside>
     requires { (2 < length c.old) × (length c.old ≤ 64) × (length b.old ≡ length c.old) × (length t.old ≡ length c.old) }
     ensures value { result ≡ prepared_of (filtered_mcp alpha beta c.old) }
     ensures c_after { c.new ≡ or_else c.old (filtered_mcp alpha beta c.old) }
@@ -27,29 +27,22 @@ fn filter_in(c: &mut [f64], alpha: f64, beta: f64, b: &mut [f64], t: &mut [f64])
     mc2b(c, alpha, b);
     vectors::copy(b, t);
     sharpen(t, alpha, beta);
-    let energies = b2en_both(b, t, alpha);
-    let e1 = energies.first;
-    let e2 = energies.second;
-    let ratio = logarithm::ln(e1 / e2);
-    match ratio {
-        Answer::Inside(y) => {
-            t[0] = t[0] + y / 2.0;
-            b2mc(t, alpha, c);
-            Prepared::Inside
-        }
-        Answer::Outside => Prepared::Outside,
-    }
+    let (e1, e2) = b2en_both(b, t, alpha);
+    let y = logarithm::ln(e1 / e2)?;
+    t[0] += y / 2.0;
+    b2mc(t, alpha, c);
+    Ok(())
 }
 
 // The postfilter. Where ln is outside, c stays.
-pub fn postfilter_mcp(c: &mut [f64], alpha: f64, beta: f64) -> Prepared
+pub fn postfilter_mcp(c: &mut [f64], alpha: f64, beta: f64) -> Result<(), Outside>
     requires { length c.old ≤ 64 }
     ensures value { result ≡ prepared_of (postfilter_mcp_of alpha beta c.old) }
     ensures c_after { c.new ≡ or_else c.old (postfilter_mcp_of alpha beta c.old) }
 {
     let n = c.len();
     if !acting(beta, n) {
-        return Prepared::Inside;
+        return Ok(());
     }
     let mut b = [0.0; 64];
     let mut t = [0.0; 64];

@@ -4,7 +4,7 @@ ghost use Rattle.elementary.specs.Outcome.{prepared_of, or_else, answer_of};
 ghost use Rattle.postfilter.specs.Pairs.{moved_of, moves_of, spread_entry, spread_of, levelled, filtered_lsp, postfilter_lsp_of};
 
 use crate::acting;
-use elementary::answer::{Answer, Prepared};
+use elementary::answer::Outside;
 use lsp::lsp2en;
 
 // An entry between two others, moved towards the nearer one.
@@ -41,65 +41,48 @@ fn spread(lsp: &[f64], beta: f64, buf: &mut [f64])
     requires { length buf.old ≡ length lsp.now }
     ensures { buf.new ≡ spread_of beta lsp.now }
 {
-    let mut i = 0;
-    while i < lsp.len() {
+    for i in 0..lsp.len() {
         buf[i] = entry(lsp, beta, i);
-        i += 1;
     }
 }
 
 // Entry 0, so that the energy is en1 and not en2.
-fn level(x: f64, en1: f64, en2: f64, log: bool) -> Answer
+fn level(x: f64, en1: f64, en2: f64, log: bool) -> Result<f64, Outside>
     ensures { result ≡ answer_of (levelled log en1 en2 x) }
 {
     if en1 == en2 {
-        return Answer::Inside(x);
+        return Ok(x);
     }
     if !log {
-        return Answer::Inside(x * root::sqrt(en1 / en2));
+        return Ok(x * root::sqrt(en1 / en2));
     }
-    let ratio = logarithm::ln(en1 / en2);
-    match ratio {
-        Answer::Inside(y) => Answer::Inside(x + 0.5 * y),
-        Answer::Outside => Answer::Outside,
-    }
+    let y = logarithm::ln(en1 / en2)?;
+    Ok(x + 0.5 * y)
 }
 
 // The postfilter where it acts, with room for the new entries.
-fn filter_in(lsp: &mut [f64], beta: f64, log: bool, s: u64, buf: &mut [f64]) -> Prepared
+fn filter_in(lsp: &mut [f64], beta: f64, log: bool, s: u64, buf: &mut [f64]) -> Result<(), Outside>
     requires { (2 < length lsp.old) × (length lsp.old ≤ 64) × (length buf.old ≡ length lsp.old) × (s ≤ 8) }
     ensures value { result ≡ prepared_of (filtered_lsp beta log s lsp.old) }
     ensures lsp_after { lsp.new ≡ or_else lsp.old (filtered_lsp beta log s lsp.old) }
 {
-    let e1 = lsp2en(lsp, log, s);
-    let Answer::Inside(en1) = e1 else {
-        return Prepared::Outside;
-    };
+    let en1 = lsp2en(lsp, log, s)?;
     spread(lsp, beta, buf);
-    let e2 = lsp2en(buf, log, s);
-    let Answer::Inside(en2) = e2 else {
-        return Prepared::Outside;
-    };
-    let gain = level(buf[0], en1, en2, log);
-    match gain {
-        Answer::Inside(x) => {
-            buf[0] = x;
-            vectors::copy(buf, lsp);
-            Prepared::Inside
-        }
-        Answer::Outside => Prepared::Outside,
-    }
+    let en2 = lsp2en(buf, log, s)?;
+    buf[0] = level(buf[0], en1, en2, log)?;
+    vectors::copy(buf, lsp);
+    Ok(())
 }
 
 // The postfilter. Where a function is outside, the pairs stay.
-pub fn postfilter_lsp(lsp: &mut [f64], beta: f64, log: bool, s: u64) -> Prepared
+pub fn postfilter_lsp(lsp: &mut [f64], beta: f64, log: bool, s: u64) -> Result<(), Outside>
     requires { (length lsp.old ≤ 64) × (s ≤ 8) }
     ensures value { result ≡ prepared_of (postfilter_lsp_of beta log s lsp.old) }
     ensures lsp_after { lsp.new ≡ or_else lsp.old (postfilter_lsp_of beta log s lsp.old) }
 {
     let n = lsp.len();
     if !acting(beta, n) {
-        return Prepared::Inside;
+        return Ok(());
     }
     let mut buf = [0.0; 64];
     filter_in(lsp, beta, log, s, &mut buf[0..n])
