@@ -5,7 +5,7 @@ ghost use Rattle.cepstrum.specs.Cepstrum.{mc2b_of};
 ghost use Rattle.prepare.specs.Preparing.{prepared_mcp, start_after, targets_after};
 
 use cepstrum::cepstrum::mc2b;
-use elementary::answer::Prepared;
+use elementary::answer::Outside;
 use postfilter::mel::postfilter_mcp;
 
 // The start coefficients, where the frame is the first.
@@ -27,7 +27,7 @@ fn prepare_in(
     c: &mut [f64],
     start: &mut [f64],
     targets: &mut [f64],
-) -> Prepared
+) -> Result<(), Outside>
     requires in_bounds { (1 ≤ length spectrum.now) × (length spectrum.now ≤ 64) × (length c.old ≡ length spectrum.now) }
     requires start_len { (length start.old ≡ length spectrum.now) × (length targets.old ≡ length spectrum.now) }
     ensures value { result ≡ prepared_of (prepared_mcp alpha beta first start.old spectrum.now) }
@@ -35,13 +35,10 @@ fn prepare_in(
     ensures targets_after { targets.new ≡ targets_after targets.old (prepared_mcp alpha beta first start.old spectrum.now) }
 {
     vectors::copy(spectrum, c);
-    let filtered = postfilter_mcp(c, alpha, beta);
-    let Prepared::Inside = filtered else {
-        return Prepared::Outside;
-    };
+    postfilter_mcp(c, alpha, beta)?;
     start_in(spectrum, alpha, first, start);
     mc2b(c, alpha, targets);
-    Prepared::Inside
+    Ok(())
 }
 
 // The targets of a frame, and the start coefficients where it is the first. Where the postfilter is outside, both stay.
@@ -52,7 +49,7 @@ pub fn prepare_mcp(
     first: bool,
     start: &mut [f64],
     targets: &mut [f64],
-) -> Prepared
+) -> Result<(), Outside>
     requires in_bounds { (1 ≤ length spectrum.now) × (length spectrum.now ≤ 64) }
     requires start_len { (length start.old ≡ length spectrum.now) × (length targets.old ≡ length spectrum.now) }
     ensures value { result ≡ prepared_of (prepared_mcp alpha beta first start.old spectrum.now) }

@@ -1,11 +1,10 @@
 // Stages 1 to 8: the spectrum is line spectral pairs.
-ghost use Rattle.std.specs.Prelude.{◌≡◌, ◌≤◌, length};
+ghost use Rattle.std.specs.Prelude.{◌≡◌, ◌≤◌, length, OnOk};
 ghost use Rattle.elementary.specs.Outcome.{inside, prepared_of};
-ghost use Rattle.elementary.specs.declared.answer.Prepared.TheVariants as prepared;
 ghost use Rattle.prepare.specs.Preparing.{start_if, coefficients_of, targets_lsp, prepared_lsp, start_after, targets_after};
 
 use cepstrum::cepstrum::mc2b;
-use elementary::answer::Prepared;
+use elementary::answer::Outside;
 use generalized::{gamma, gnorm};
 use lsp::lsp2mgc;
 use postfilter::pairs::postfilter_lsp;
@@ -19,22 +18,16 @@ fn coefficients(
     s: u64,
     mgc: &mut [f64],
     b: &mut [f64],
-) -> Prepared
+) -> Result<(), Outside>
     requires { (1 ≤ length lsp.now) × (length lsp.now ≤ 64) × (length mgc.old ≡ length lsp.now) × (length b.old ≡ length lsp.now) × (s ≤ 8) }
     ensures value { result ≡ prepared_of (coefficients_of alpha log s lsp.now) }
-    ensures b_after { result ≡ prepared.Inside → inside b.new ≡ coefficients_of alpha log s lsp.now }
+    ensures b_after { OnOk result (inside b.new ≡ coefficients_of alpha log s lsp.now) }
 {
-    let cepstrum = lsp2mgc(lsp, log, s, mgc);
-    let Prepared::Inside = cepstrum else {
-        return Prepared::Outside;
-    };
+    lsp2mgc(lsp, log, s, mgc)?;
     mc2b(mgc, alpha, b);
-    let normalised = gnorm(b, s);
-    let Prepared::Inside = normalised else {
-        return Prepared::Outside;
-    };
+    gnorm(b, s)?;
     vectors::multiply_from(b, 1, gamma(s));
-    Prepared::Inside
+    Ok(())
 }
 
 // The targets, with room for the pairs that are postfiltered and repaired.
@@ -47,17 +40,14 @@ fn targets_in(
     lsp: &mut [f64],
     mgc: &mut [f64],
     b: &mut [f64],
-) -> Prepared
+) -> Result<(), Outside>
     requires in_bounds { (2 ≤ length spectrum.now) × (length spectrum.now ≤ 64) × (length lsp.old ≡ length spectrum.now) × (s ≤ 8) }
     requires mgc_len { (length mgc.old ≡ length spectrum.now) × (length b.old ≡ length spectrum.now) }
     ensures value { result ≡ prepared_of (targets_lsp alpha beta log s spectrum.now) }
-    ensures b_after { result ≡ prepared.Inside → inside b.new ≡ targets_lsp alpha beta log s spectrum.now }
+    ensures b_after { OnOk result (inside b.new ≡ targets_lsp alpha beta log s spectrum.now) }
 {
     vectors::copy(spectrum, lsp);
-    let filtered = postfilter_lsp(lsp, beta, log, s);
-    let Prepared::Inside = filtered else {
-        return Prepared::Outside;
-    };
+    postfilter_lsp(lsp, beta, log, s)?;
     check_lsp_stability(lsp);
     coefficients(lsp, alpha, log, s, mgc, b)
 }
@@ -71,13 +61,13 @@ fn start_in(
     first: bool,
     mgc: &mut [f64],
     b: &mut [f64],
-) -> Prepared
+) -> Result<(), Outside>
     requires { (1 ≤ length spectrum.now) × (length spectrum.now ≤ 64) × (length mgc.old ≡ length spectrum.now) × (length b.old ≡ length spectrum.now) × (s ≤ 8) }
     ensures value { result ≡ prepared_of (start_if first (coefficients_of alpha log s spectrum.now) b.old) }
-    ensures b_after { result ≡ prepared.Inside → inside b.new ≡ start_if first (coefficients_of alpha log s spectrum.now) b.old }
+    ensures b_after { OnOk result (inside b.new ≡ start_if first (coefficients_of alpha log s spectrum.now) b.old) }
 {
     if !first {
-        return Prepared::Inside;
+        return Ok(());
     }
     coefficients(spectrum, alpha, log, s, mgc, b)
 }
@@ -96,7 +86,7 @@ fn prepare_in(
     t: &mut [f64],
     start: &mut [f64],
     targets: &mut [f64],
-) -> Prepared
+) -> Result<(), Outside>
     requires in_bounds { (2 ≤ length spectrum.now) × (length spectrum.now ≤ 64) × (length lsp.old ≡ length spectrum.now) × (s ≤ 8) }
     requires mgc_len { (length mgc.old ≡ length spectrum.now) × (length b.old ≡ length spectrum.now) × (length t.old ≡ length spectrum.now) }
     requires start_len { (length start.old ≡ length spectrum.now) × (length targets.old ≡ length spectrum.now) }
@@ -105,17 +95,11 @@ fn prepare_in(
     ensures targets_after { targets.new ≡ targets_after targets.old (prepared_lsp alpha beta log s first start.old spectrum.now) }
 {
     vectors::copy(start, b);
-    let started = start_in(spectrum, alpha, log, s, first, mgc, b);
-    let Prepared::Inside = started else {
-        return Prepared::Outside;
-    };
-    let targeted = targets_in(spectrum, alpha, beta, log, s, lsp, mgc, t);
-    let Prepared::Inside = targeted else {
-        return Prepared::Outside;
-    };
+    start_in(spectrum, alpha, log, s, first, mgc, b)?;
+    targets_in(spectrum, alpha, beta, log, s, lsp, mgc, t)?;
     vectors::copy(b, start);
     vectors::copy(t, targets);
-    Prepared::Inside
+    Ok(())
 }
 
 // The targets of a frame, and the start coefficients where it is the first. Where a function is outside, both stay.
@@ -128,7 +112,7 @@ pub fn prepare_lsp(
     first: bool,
     start: &mut [f64],
     targets: &mut [f64],
-) -> Prepared
+) -> Result<(), Outside>
     requires in_bounds { (2 ≤ length spectrum.now) × (length spectrum.now ≤ 64) × (s ≤ 8) }
     requires start_len { (length start.old ≡ length spectrum.now) × (length targets.old ≡ length spectrum.now) }
     ensures value { result ≡ prepared_of (prepared_lsp alpha beta log s first start.old spectrum.now) }
