@@ -6,10 +6,10 @@ use native.Mathlib.Decide.{dec_le}
 use native.Mathlib.Omega.{arith}
 use lib.Ieee.{Float, nan}
 use lib.ListN.{length, set, take, drop, length-drop, take-append-drop}
-use lib.Seq.{take_all, get_or-drop, length-take-le}
+use lib.Seq.{take_all}
 use Rattle.number.specs.F64.{◌⊕◌, ◌⊗◌, ◌‼◌, 0f}
 use Rattle.number.specs.Lists.{over, row, put_row}
-use Rattle.number.proofs.Lists.{left_next, left_none, front_turn, front_end, over_more, over_known, over_past, over_end}
+use Rattle.number.proofs.Lists.{left_next, left_none, front_turn, front_end, over_more, over_end}
 use Rattle.delay.specs.Line.{with_pulse, shifted}
 
 -- ---- c * lpf[k] is added at k: what is made of the rest
@@ -59,18 +59,7 @@ pulse_apart c (x ∷ lpf) (tap ∷ line) rest h g e =
     let made : rest ≡ with_pulse c lpf line = rw (taps, others) at e in
     ap (λ (l : List Float). tap ⊕ c ⊗ x ∷ l) (ap (λ (l : List Float). rest ++ l) none ∙ append-nil rest ∙ made) ∙ sym (pulse_head c x lpf tap line)
 
--- ---- the line moves down, tap by tap
-pub shift_turn : (L l : List Float) (k : ℕ) → k + 1 < length L → l ≡ over (take k (drop 1 L)) k L
-    → set l k (l ‼ (k + 1)) ≡ over (take (k + 1) (drop 1 L)) (k + 1) L
-shift_turn L l k h e =
-    let n : length (drop 1 L) ≡ length L - 1 = length-drop 1 L in
-    let t : length (take k (drop 1 L)) ≡ k = length-take-le k (drop 1 L) (omega arith) in
-    let one : 1 + k ≡ k + 1 = omega arith in
-    let read : l ‼ (k + 1) ≡ drop 1 L ‼ k =
-    ap (λ (m : List Float). m ‼ (k + 1)) e ∙ over_past (take k (drop 1 L)) L k 1 nan t ∙ ap (λ (i : ℕ). L ‼ i) (sym one) ∙ sym (get_or-drop 1 L k nan) in
-    ap (λ (x : Float). set l k x) read ∙ ap (λ (m : List Float). set m k (drop 1 L ‼ k)) e ∙ over_known (drop 1 L) L k nan (omega (arith, n)) (omega arith)
-
--- and a zero comes in at the far end
+-- ---- the line has moved down, and a zero comes in at the far end
 pub shift_last : (L l : List Float) (k : ℕ) → length L ≡ k + 1 → l ≡ over (take k (drop 1 L)) k L → set l k 0f ≡ shifted L
 unfolding shifted
 shift_last L l k h e =

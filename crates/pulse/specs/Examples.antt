@@ -1,10 +1,9 @@
 -- The pulse train at computed points. Assumes nothing.
-use Rattle.std.specs.Prelude.{◌≡◌, refl, true, false, pos, negsuc, Float}
+use Rattle.std.specs.Prelude.{◌≡◌, refl, true, false, pos, negsuc, Float, None, Some}
 use Rattle.std.specs.Float.{nan, fin, binary64}
 use Rattle.std.specs.Float.Ieee.{of_bits, of_int, add, sub, div, neg, eq, ne, lt, le}
 use Rattle.number.specs.F64.{−◌, 0f, ½f, 1f, 2f}
 use Rattle.root.specs.Root.{floor_root, nearest_root, units_of, root_of_units, root_of}
-use Rattle.pulse.specs.declared.Pitch.TheVariants.{Unvoiced, Voiced}
 use Rattle.pulse.specs.Train.{voiced, train, fresh_pulse, start_of, pulse_of, pulse_after, end_of}
 
 -- numbers as floats
@@ -24,12 +23,12 @@ unfolding ne eq neg of_bits
 minus_zero_unvoiced = refl
 
 -- from pitch 2 to 4 in four samples: by a half each
-pub start_by_steps : start_of (train 2f 1f 0f 2f) (Voiced 4f) 4 ≡ train 2f 1f (fin false 1 (negsuc 0)) 4f
+pub start_by_steps : start_of (train 2f 1f 0f 2f) (Some 4f) 4 ≡ train 2f 1f (fin false 1 (negsuc 0)) 4f
 unfolding start_of ne eq sub add neg div of_int of_bits
 start_by_steps = refl
 
 -- to an unvoiced frame at once
-pub start_at_once : start_of (train 2f 1f 1f 2f) Unvoiced 4 ≡ fresh_pulse
+pub start_at_once : start_of (train 2f 1f 1f 2f) None 4 ≡ fresh_pulse
 unfolding start_of ne eq of_bits
 start_at_once = refl
 

@@ -1,18 +1,15 @@
 -- The pulse train, as in the Rust's `start`, `get` and `end`. Assumes nothing.
-use Rattle.std.specs.Prelude.{Bool, cond, ◌&&◌, ℕ, pos, Float}
+use Rattle.std.specs.Prelude.{Bool, cond, ◌&&◌, ℕ, pos, Float, Option, unwrap_or}
 use Rattle.std.specs.Float.{binary64}
 use Rattle.std.specs.Float.Ieee.{of_int, ne, le}
 use Rattle.number.specs.F64.{◌⊕◌, ◌⊖◌, ◌⊘◌, 0f, 1f}
 use Rattle.root.specs.Root.{root_of}
 use Rattle.pulse.specs.declared.Pulse.{Pulse}
 use Rattle.pulse.specs.declared.Pulsed.{Pulsed}
-use Rattle.pulse.specs.declared.Pitch.{Pitch}
-use Rattle.pulse.specs.declared.Pitch.TheVariants.{Unvoiced, Voiced}
 
 -- the document's value for each case: an unvoiced frame has the pitch 0
-abbrev pub period_of : Pitch → Float
-period_of Unvoiced = 0f
-period_of (Voiced p) = p
+abbrev pub period_of : Option Float → Float
+period_of pitch = unwrap_or pitch 0f
 
 -- a pitch that is not 0: the NaN is not 0, and -0 is
 abbrev pub voiced : Float → Bool
@@ -26,7 +23,7 @@ abbrev pub fresh_pulse : Pulse
 fresh_pulse = train 0f 0f 0f 0f
 
 -- a frame begins
-unfoldable pub start_of : Pulse → Pitch → ℕ → Pulse
+unfoldable pub start_of : Pulse → Option Float → ℕ → Pulse
 start_of t pitch fperiod =
     let p = period_of pitch in
     cond (voiced t.pitch && voiced p)

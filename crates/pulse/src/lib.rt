@@ -2,7 +2,7 @@
 #![tactic(auto)]
 
 ghost use Rattle.std.specs.Prelude.{◌≡◌, ◌≤◌, ◌^◌};
-ghost use Rattle.pulse.specs.Train.{period_of, fresh_pulse, start_of, pulse_of, end_of};
+ghost use Rattle.pulse.specs.Train.{fresh_pulse, start_of, pulse_of, end_of};
 
 // The pitch in samples, 0 where unvoiced; what has been counted since the last pulse; what the pitch gains with each sample; the
 // pitch that the frame ends at.
@@ -15,28 +15,11 @@ pub struct Pulse {
     pub end: f64,
 }
 
-// The pitch of a frame: none, or a period in samples.
-#[derive(Clone, Copy)]
-pub enum Pitch {
-    Unvoiced,
-    Voiced(f64),
-}
-
 // A sample of the train, a pulse or the 0 between two, and the train after it.
 #[derive(Clone, Copy)]
 pub struct Pulsed {
     pub sample: f64,
     pub pulse: Pulse,
-}
-
-// The document's number for a pitch.
-fn period(pitch: Pitch) -> f64
-    ensures { result ≡ period_of pitch }
-{
-    match pitch {
-        Pitch::Unvoiced => 0.0,
-        Pitch::Voiced(p) => p,
-    }
 }
 
 impl Pulse {
@@ -52,12 +35,12 @@ impl Pulse {
         }
     }
 
-    // A frame of fperiod samples begins: from one voiced pitch to another it goes by steps, else at once.
-    pub fn start(self, pitch: Pitch, fperiod: u64) -> Self
+    // A frame of fperiod samples begins, whose pitch is a period in samples, or none where it is unvoiced: from one voiced pitch to another it goes by steps, else at once.
+    pub fn start(self, pitch: Option<f64>, fperiod: u64) -> Self
         requires { fperiod ≤ 2 ^ 53 }
         ensures { result ≡ start_of self pitch fperiod }
     {
-        let end = period(pitch);
+        let end = pitch.unwrap_or(0.0);
         if self.pitch != 0.0 && end != 0.0 {
             return Self {
                 pitch: self.pitch,

@@ -6,12 +6,12 @@ use Rattle.delay.proofs.LineLaws.{pulse_turn, pulse_end}
 use Rattle.delay.proofs.add_each.Goals as goal
 
 pub loop-k-init : goal.loop-k-init
-loop-k-init c = (c.least-n.ensures, omega arith, refl, refl)
+loop-k-init c = (refl, refl)
 
 pub loop-k-preserved : goal.loop-k-preserved
 loop-k-preserved c =
-    (c.loop-k.invariant.0, omega arith, length-set c.loop-k.line c.loop-k.k _ ∙ c.loop-k.invariant.2, pulse_turn c.args.c c.args.lpf.now c.loop-k.line c.loop-k.k (omega arith) (omega arith) ∙ c.loop-k.invariant.3)
+    (length-set c.loop-k.line c.loop-k.k _ ∙ c.loop-k.invariant.0, pulse_turn c.args.c c.args.lpf.now c.loop-k.line c.loop-k.k (omega arith) (omega arith) ∙ c.loop-k.invariant.1)
 
 pub returns : goal.returns
 returns c =
-    sym (pulse_end c.args.c c.args.lpf.now c.loop-k.line c.loop-k.k (omega arith)) ∙ c.loop-k.invariant.3
+    sym (pulse_end c.args.c c.args.lpf.now c.loop-k.line c.loop-k.k (omega arith)) ∙ c.loop-k.invariant.1
