@@ -17,7 +17,7 @@ use Rattle.elementary.specs.Exact.{ln_inside}
 use Rattle.history.specs.Steps.{dry, one, Run, running, stopped, steps}
 use Rattle.history.proofs.StepLaws.{turn_one, turn_dry}
 use Rattle.noise.specs.declared.draw.Try.{Try}
-use Rattle.noise.specs.declared.pair.Found.TheVariants as found
+use Rattle.std.specs.Prelude.{None, Some}
 use Rattle.noise.specs.Noise.{found_of, multiplier_of, values_of, pair_of, concat, filling_of}
 use Rattle.noise.specs.Gathering.{weight_of, pairs_of, Gathered}
 use Rattle.noise.proofs.NoiseLaws.{found_inside, pair_is, filling_is, concat_more, over_pair}
@@ -56,13 +56,13 @@ unfolding steps pairs_of
 gathered_none bound next a b s = record { run = refl; values = refl; inside = λ k l. absurd (omega arith) }
 
 pub gathered_more : (bound next i now : ℕ) (a b s : List Float) (t : Try)
-    → Gathered bound next i now a b s → found.Pair t ≡ found_of bound now → i < length a → i < length b → i < length s
+    → Gathered bound next i now a b s → Some t ≡ found_of bound now → i < length a → i < length b → i < length s
     → Gathered bound next (i + 1) t.next (set a i t.r1) (set b i t.r2) (set s i t.s)
 gathered_more bound next i now a b s t g e la lb ls =
     let M = (steps (pair_of bound) i next).made in
     let m : ℕ → Float = λ k. multiplier_of (s ‼ k) in
     let m' : ℕ → Float = λ k. multiplier_of (set s i t.s ‼ k) in
-    let new : steps (pair_of bound) (i + 1) next ≡ running (M ++ (values_of t ∷ [])) t.next = turn_one (pair_of bound) i next now M (values_of t) t.next g.run (pair_is bound now (found.Pair t) e) in
+    let new : steps (pair_of bound) (i + 1) next ≡ running (M ++ (values_of t ∷ [])) t.next = turn_one (pair_of bound) i next now M (values_of t) t.next g.run (pair_is bound now (Some t) e) in
     let pairs : (steps (pair_of bound) (i + 1) next).made ≡ M ++ (values_of t ∷ []) = ap (λ (r : Run ℕ (List Float)). r.made) new in
     let here : set s i t.s ‼ i ≡ t.s = get_or-set_same s i t.s nan ls in
     let same : pairs_of m' i (set a i t.r1) (set b i t.r2) ≡ pairs_of m i a b =
@@ -74,10 +74,10 @@ gathered_more bound next i now a b s t g e la lb ls =
     }
 
 -- where a pair is dry, so is the filling
-pub gathered_dry : (bound next i now : ℕ) (a b s : List Float) → Gathered bound next i now a b s → i < 32 → found.Dry ≡ found_of bound now → dry ≡ filling_of bound next
+pub gathered_dry : (bound next i now : ℕ) (a b s : List Float) → Gathered bound next i now a b s → i < 32 → None ≡ found_of bound now → dry ≡ filling_of bound next
 gathered_dry bound next i now a b s g h e =
     let M = (steps (pair_of bound) i next).made in
-    sym (filling_is bound next (stopped M now) (turn_dry (pair_of bound) i 32 next now M h g.run (pair_is bound now found.Dry e)))
+    sym (filling_is bound next (stopped M now) (turn_dry (pair_of bound) i 32 next now M h g.run (pair_is bound now None e)))
 
 -- ---- the second: a weight more is stored
 pub weighed_more : (s w : List Float) (i : ℕ) (x : Float) → ((k : ℕ) → k < i → w ‼ k ≡ weight_of (s ‼ k)) → x ≡ weight_of (s ‼ i) → i < length w

@@ -3,6 +3,7 @@ use mathlib.Core.Path.{◌≡◌, refl, sym, ap, ◌∙◌, subst}
 use mathlib.Core.List.{List, [], ◌∷◌, ◌++◌, append_assoc, append-nil}
 use mathlib.Core.Bool.{Bool, true, false}
 use Prim.Native.Nat.{ℕ, zero, suc, ◌+◌, ◌*◌, ◌<◌}
+use lib.Dec.{ltb}
 use native.Mathlib.Omega.{arith}
 use lib.Dec.{T}
 use lib.Ieee.{Float}
@@ -10,16 +11,16 @@ use lib.ListN.{length, set, length-append}
 use Rattle.number.specs.Lists.{over}
 use Rattle.number.proofs.Lists.{over_more}
 use Rattle.elementary.specs.Exact.{ln_inside}
-use Rattle.history.specs.Steps.{Run, steps}
+use Rattle.history.specs.Steps.{dry, one, Run, steps}
+use Rattle.noise.specs.declared.Random.{Random}
 use Rattle.noise.specs.declared.draw.Try.{Try}
-use Rattle.noise.specs.declared.pair.Found.{Found}
-use Rattle.noise.specs.declared.pair.Found.TheVariants as found
+use Rattle.std.specs.Prelude.{Option, Some}
 use Rattle.noise.specs.Draw.{try_of, accepted}
-use Rattle.noise.specs.Noise.{found_of, pair_step, pair_of, concat, filled, filling_of}
+use Rattle.noise.specs.Noise.{found_of, pair_step, pair_of, concat, filled, filling_of, take_from, noise_of}
 use Rattle.noise.proofs.Tries.{s_inside}
 
 -- the first try is accepted, or is not
-pub found_first : (bound next : ℕ) → accepted (try_of next) ≡ true → found_of (suc bound) next ≡ found.Pair (try_of next)
+pub found_first : (bound next : ℕ) → accepted (try_of next) ≡ true → found_of (suc bound) next ≡ Some (try_of next)
 unfolding found_of
 found_first bound next e = rw e refl
 
@@ -28,20 +29,20 @@ unfolding found_of
 found_later bound next e = rw e refl
 
 -- what is found is inside ln
-pub found_inside : (bound next : ℕ) (t : Try) → found_of bound next ≡ found.Pair t → T (ln_inside t.s)
+pub found_inside : (bound next : ℕ) (t : Try) → found_of bound next ≡ Some t → T (ln_inside t.s)
 unfolding found_of
 found_inside zero next t e = let z : ◌≡◌ {A = ℕ} 0 1 = cc in absurd (omega arith)
 found_inside (suc bound) next t e = go (accepted (try_of next)) refl (found_inside bound (try_of next).next t)
   where
-    go : (b : Bool) → accepted (try_of next) ≡ b → (found_of bound (try_of next).next ≡ found.Pair t → T (ln_inside t.s)) → T (ln_inside t.s)
+    go : (b : Bool) → accepted (try_of next) ≡ b → (found_of bound (try_of next).next ≡ Some t → T (ln_inside t.s)) → T (ln_inside t.s)
     go true a later =
-        let same : found.Pair (try_of next) ≡ found.Pair t = sym (found_first bound next a) ∙ e in
+        let same : Some (try_of next) ≡ Some t = sym (found_first bound next a) ∙ e in
         let is : try_of next ≡ t = cc in
         subst (λ (u : Try). T (ln_inside u.s)) is (s_inside next)
     go false a later = later (sym (found_later bound next a) ∙ e)
 
 -- a pair is what is found
-pub pair_is : (bound next : ℕ) (f : Found) → f ≡ found_of bound next → pair_of bound next ≡ pair_step f
+pub pair_is : (bound next : ℕ) (f : Option Try) → f ≡ found_of bound next → pair_of bound next ≡ pair_step f
 unfolding pair_of
 pair_is bound next f e = ap pair_step (sym e)
 
@@ -65,3 +66,17 @@ over_pair xs d i a b e h =
     ∙ over_more (xs ++ (a ∷ [])) d (2 * i + 1) b n h
     ∙ ap (λ (l : List Float). over l (2 * i + 1 + 1) d) (append_assoc xs (a ∷ []) (b ∷ []))
     ∙ ap (λ (k : ℕ). over (xs ++ (a ∷ b ∷ [])) k d) twice
+
+-- ---- a value: one that is left, the first of a filling, or none
+module _ (bound : ℕ) (z : Random) where
+  pub value_left : ltb z.used 64 ≡ true → take_from z ≡ noise_of bound z
+  unfolding noise_of
+  value_left h = rw h refl
+
+  pub value_filled : (queue : List Float) (next : ℕ) → ltb z.used 64 ≡ false → one queue next ≡ filling_of bound z.next → take_from (record { next = next; used = 0; queue = queue }) ≡ noise_of bound z
+  unfolding noise_of
+  value_filled queue next h e = rw (h, ← e) refl
+
+  pub value_dry : ltb z.used 64 ≡ false → dry ≡ filling_of bound z.next → dry ≡ noise_of bound z
+  unfolding noise_of
+  value_dry h e = rw (h, ← e) refl

@@ -1,5 +1,5 @@
 -- The definitions at computed points. The numbers are the Rust's. Assumes nothing.
-use Rattle.std.specs.Prelude.{◌≡◌, refl, [], ◌∷◌, true, false, ℕ, pos, negsuc, Float}
+use Rattle.std.specs.Prelude.{◌≡◌, refl, [], ◌∷◌, true, false, ℕ, pos, negsuc, Float, None, Some}
 use Rattle.std.specs.Float.{fin, binary64}
 use Rattle.std.specs.Float.Ieee.{of_bits, to_bits, of_int, round, add, sub, mul, div, neg, lt, le, eq}
 use Rattle.number.specs.F64.{◌⊕◌, ◌⊖◌, ◌⊗◌, ◌⊘◌, ½f, 1f, 2f}
@@ -10,7 +10,6 @@ use Rattle.elementary.specs.Horner.{horner}
 use Rattle.elementary.specs.Band.{number_of}
 use Rattle.logarithm.specs.Ln.{coefficient, sum_of, near_one, field, part, turns, of_pattern, ln_of}
 use Rattle.noise.specs.declared.Random.{Random}
-use Rattle.noise.specs.declared.pair.Found.TheVariants as found
 use Rattle.noise.specs.Draw.{draw_of, r_of, 32767f, value_of, try_of, accepted}
 use Rattle.noise.specs.Noise.{found_of, multiplier_of, pair_of, filling_of, noise_of, fresh_random}
 
@@ -50,11 +49,11 @@ least_s = refl
 
 -- ---- pairs: from 12 on the third try is the first accepted
 
-pub dry_after_two : found_of 2 12 ≡ found.Dry
+pub dry_after_two : found_of 2 12 ≡ None
 unfolding found_of try_of value_of of_bits of_int div mul sub add neg lt
 dry_after_two = refl
 
-pub found_third : found_of 3 12 ≡ found.Pair (try_of (try_of (try_of 12).next).next)
+pub found_third : found_of 3 12 ≡ Some (try_of (try_of (try_of 12).next).next)
 unfolding found_of try_of value_of of_bits of_int div mul sub add neg lt
 found_third = refl
 

@@ -1,5 +1,5 @@
 -- A filling in three passes: the pairs are found, their weights made, and their numbers multiplied by the roots. Assumes nothing.
-use Rattle.std.specs.Prelude.{◌≡◌, refl, List, [], ◌∷◌, ◌++◌, false, ℕ, zero, suc, ◌<◌, pos, T, Float}
+use Rattle.std.specs.Prelude.{◌≡◌, refl, List, [], ◌∷◌, ◌++◌, false, ℕ, zero, suc, ◌<◌, pos, T, Float, Option, None, Some}
 use Rattle.std.specs.Float.{fin}
 use Rattle.std.specs.Float.Ieee.{of_bits, to_bits, of_int, round, add, sub, mul, div, neg, eq, le, lt}
 use Rattle.number.specs.F64.{◌⊗◌, ◌⊘◌, −◌, ◌‼◌, 0f, 1f, 2f}
@@ -9,8 +9,6 @@ use Rattle.elementary.specs.Band.{number_of}
 use Rattle.elementary.specs.Exact.{ln_inside}
 use Rattle.logarithm.specs.Ln.{coefficient, sum_of, near_one, field, part, turns, of_pattern, ln_of}
 use Rattle.history.specs.Steps.{dry, running, steps}
-use Rattle.noise.specs.declared.Filling.{Filling}
-use Rattle.noise.specs.declared.Filling.TheVariants as filling
 use Rattle.noise.specs.Noise.{multiplier_of, pair_of, concat, filling_of}
 
 -- -2 ln s / s, of which the multiplier is the root
@@ -38,6 +36,6 @@ pub record Gathered (bound next i now : ℕ) (firsts seconds sums : List Float) 
   pub inside : (k : ℕ) → k < i → T (ln_inside (sums ‼ k))
 
 -- what `find_pairs` answers: all 32, or that the filling is dry
-abbrev pub Gathers : ℕ → ℕ → Filling → List Float → List Float → List Float → Type 0
-Gathers bound next filling.Dry firsts seconds sums = dry ≡ filling_of bound next
-Gathers bound next (filling.Full now) firsts seconds sums = Gathered bound next 32 now firsts seconds sums
+abbrev pub Gathers : ℕ → ℕ → Option ℕ → List Float → List Float → List Float → Type 0
+Gathers bound next None firsts seconds sums = dry ≡ filling_of bound next
+Gathers bound next (Some now) firsts seconds sums = Gathered bound next 32 now firsts seconds sums

@@ -1,24 +1,18 @@
 -- The noise: a filling of 32 pairs, and the values taken from it. Assumes nothing.
-use Rattle.std.specs.Prelude.{List, [], ◌∷◌, ◌++◌, cond, ℕ, zero, suc, ◌+◌, ltb, replicate, Float}
+use Rattle.std.specs.Prelude.{List, [], ◌∷◌, ◌++◌, cond, ℕ, zero, suc, ◌+◌, ltb, replicate, Float, Option, None, Some}
 use Rattle.number.specs.F64.{◌⊗◌, ◌⊘◌, −◌, ◌‼◌, 0f, 2f}
 use Rattle.root.specs.Root.{root_of}
 use Rattle.elementary.specs.Band.{number_of}
 use Rattle.logarithm.specs.Ln.{ln_of}
 use Rattle.history.specs.Steps.{Step, dry, one, Run, steps}
 use Rattle.noise.specs.declared.draw.Try.{Try}
-use Rattle.noise.specs.declared.pair.Found.{Found}
-use Rattle.noise.specs.declared.pair.Found.TheVariants as found
 use Rattle.noise.specs.declared.Random.{Random}
-use Rattle.noise.specs.declared.Filling.{Filling}
-use Rattle.noise.specs.declared.Filling.TheVariants as filling
-use Rattle.noise.specs.declared.Taken.{Taken}
-use Rattle.noise.specs.declared.Taken.TheVariants as taken
 use Rattle.noise.specs.Draw.{try_of, accepted}
 
 -- the first accepted of so many tries, or dry
-unfoldable pub found_of : ℕ → ℕ → Found
-found_of zero next = found.Dry
-found_of (suc bound) next = cond (accepted (try_of next)) (found.Pair (try_of next)) (found_of bound (try_of next).next)
+unfoldable pub found_of : ℕ → ℕ → Option Try
+found_of zero next = None
+found_of (suc bound) next = cond (accepted (try_of next)) (Some (try_of next)) (found_of bound (try_of next).next)
 
 -- sqrt (-2 ln s / s)
 unfoldable pub multiplier_of : Float → Float
@@ -29,9 +23,9 @@ abbrev pub values_of : Try → List Float
 values_of t = t.r1 ⊗ multiplier_of t.s ∷ t.r2 ⊗ multiplier_of t.s ∷ []
 
 -- a pair: its two values, and `next` after its tries
-abbrev pub pair_step : Found → Step ℕ (List Float)
-pair_step found.Dry = dry
-pair_step (found.Pair t) = one (values_of t) t.next
+abbrev pub pair_step : Option Try → Step ℕ (List Float)
+pair_step None = dry
+pair_step (Some t) = one (values_of t) t.next
 
 unfoldable pub pair_of : ℕ → ℕ → Step ℕ (List Float)
 pair_of bound next = pair_step (found_of bound next)
@@ -59,14 +53,14 @@ take_first (one queue next) = take_from (record { next = next; used = 0; queue =
 unfoldable pub noise_of : ℕ → Random → Step Random Float
 noise_of bound z = cond (ltb z.used 64) (take_from z) (take_first (filling_of bound z.next))
 
--- what `fill_queue` and `nrandom` answer, beside the queue that they leave, as those steps
-abbrev pub filled_of : Filling → List Float → Step ℕ (List Float)
-filled_of filling.Dry queue = dry
-filled_of (filling.Full next) queue = one queue next
+-- what `fill_queue` and `nrandom` answer, beside the queue and the noise that they leave, as those steps
+abbrev pub filled_of : Option ℕ → List Float → Step ℕ (List Float)
+filled_of None queue = dry
+filled_of (Some next) queue = one queue next
 
-abbrev pub taken_of : Taken → List Float → Step Random Float
-taken_of taken.Dry queue = dry
-taken_of (taken.Value x next used) queue = one x (record { next = next; used = used; queue = queue })
+abbrev pub taken_of : Option Float → Random → Step Random Float
+taken_of None after = dry
+taken_of (Some x) after = one x after
 
 -- the noise at rest
 abbrev pub fresh_random : Random

