@@ -2,12 +2,12 @@
 #![tactic(auto)]
 
 use noise::Random;
-use pulse::{Pitch, Pulse};
+use pulse::Pulse;
 use std::io;
 
 fn main(rt: HostRuntime) -> io::Result<()> {
     println!(rt; "excitation 8")?;
-    let pulse = Pulse::new().start(Pitch::Voiced(4.0), 8);
+    let pulse = Pulse::new().start(Some(4.0), 8);
     let random = Random::new();
     let mut line: [f64; 0] = [];
     let lpf: [f64; 0] = [];

@@ -7,14 +7,15 @@ use lib.Dec.{eqb}
 use lib.Ieee.{Float}
 use lib.ListN.{length}
 use Rattle.number.specs.F64.{◌⊖◌, ◌‼◌}
+use Rattle.std.specs.Prelude.{Option, None, Some}
 use Rattle.history.specs.Steps.{dry, one}
 use Rattle.noise.specs.declared.Random.{Random}
-use Rattle.noise.specs.Noise.{noise_of}
+use Rattle.noise.specs.Noise.{noise_of, taken_of}
 use Rattle.pulse.specs.declared.Pulse.{Pulse}
 use Rattle.pulse.specs.declared.Pulsed.{Pulsed}
 use Rattle.pulse.specs.Train.{voiced, pulse_of, pulse_after}
 use Rattle.delay.specs.Line.{with_noise, with_pulse, shifted}
-use Rattle.excitation.specs.Excitation.{Excitation, pulse_alone, noise_alone, plain_step, mixed_line, mixed, mixed_step, step_of}
+use Rattle.excitation.specs.Excitation.{Excitation, state, sampled_of, pulse_alone, plain_step, mixed_line, mixed, mixed_step, step_of}
 
 module _ (bound : ℕ) (s : Excitation) where
   -- ---- with nlpf 0
@@ -22,13 +23,11 @@ module _ (bound : ℕ) (s : Excitation) where
   unfolding plain_step
   plain_pulse v = rw v refl
 
-  pub plain_noise : (noise : Float) (z : Random) → voiced s.pulse.pitch ≡ false → one noise z ≡ noise_of bound s.random → noise_alone s noise z ≡ plain_step bound s
+  -- by what `nrandom` answers
+  pub plain_taken : (r : Option Float) (z : Random) → voiced s.pulse.pitch ≡ false → taken_of r z ≡ noise_of bound s.random → sampled_of r (state s.pulse z s.line) ≡ plain_step bound s
   unfolding plain_step
-  plain_noise noise z v e = rw (v, ← e) refl
-
-  pub plain_dry : voiced s.pulse.pitch ≡ false → dry ≡ noise_of bound s.random → dry ≡ plain_step bound s
-  unfolding plain_step
-  plain_dry v e = rw (v, ← e) refl
+  plain_taken None z v e = rw (v, ← e) refl
+  plain_taken (Some noise) z v e = rw (v, ← e) refl
 
   -- ---- with more
   pub mixed_noise : (lpf : List Float) (noise : Float) (z : Random) → one noise z ≡ noise_of bound s.random → mixed lpf s noise z ≡ mixed_step bound lpf s
@@ -36,10 +35,10 @@ module _ (bound : ℕ) (s : Excitation) where
   mixed_noise lpf noise z e = rw (← e) refl
 
   -- by what `mix` answers
-  pub mixed_made : (lpf out : List Float) (noise : Float) (z : Random) (p : Pulsed) → one noise z ≡ noise_of bound s.random
-      → p ≡ record { sample = mixed_line s.pulse noise lpf s.line ‼ 0; pulse = pulse_after s.pulse } → out ≡ mixed_line s.pulse noise lpf s.line
-      → one p.sample (record { pulse = p.pulse; random = z; line = shifted out }) ≡ mixed_step bound lpf s
-  mixed_made lpf out noise z p e ep eo = rw (ep, eo) (mixed_noise lpf noise z e)
+  pub mixed_made : (lpf out : List Float) (noise x : Float) (z : Random) (p : Pulse) → one noise z ≡ noise_of bound s.random
+      → x ≡ mixed_line s.pulse noise lpf s.line ‼ 0 → p ≡ pulse_after s.pulse → out ≡ mixed_line s.pulse noise lpf s.line
+      → one x (state p z (shifted out)) ≡ mixed_step bound lpf s
+  mixed_made lpf out noise x z p e ex ep eo = rw (ex, ep, eo) (mixed_noise lpf noise z e)
 
   pub mixed_dry : (lpf : List Float) → dry ≡ noise_of bound s.random → dry ≡ mixed_step bound lpf s
   unfolding mixed_step
@@ -72,16 +71,7 @@ module _ (pulse : Pulse) where
   unfolding pulse_after
   after_unvoiced v = rw v refl
 
-  -- what `mix` makes of its steps, by what each of them answers
-  pub mix_voiced : (noise : Float) (lpf line noisy both : List Float) (p : Pulsed)
-      → voiced pulse.pitch ≡ true → noisy ≡ with_noise noise line → p ≡ pulse_of pulse → both ≡ with_pulse (p.sample ⊖ noise) lpf noisy
-      → (◌≡◌ {A = Pulsed} (record { sample = both ‼ 0; pulse = p.pulse }) (record { sample = mixed_line pulse noise lpf line ‼ 0; pulse = pulse_after pulse })) × (both ≡ mixed_line pulse noise lpf line)
-  mix_voiced noise lpf line noisy both p v ew ep eb =
-      let all : both ≡ mixed_line pulse noise lpf line = eb ∙ rw (ep, ew) (sym (line_voiced noise lpf line v)) in
-      (rw (all, ep, after_voiced v) refl, all)
-
-  pub mix_unvoiced : (noise : Float) (lpf line noisy : List Float) → voiced pulse.pitch ≡ false → noisy ≡ with_noise noise line
-      → (◌≡◌ {A = Pulsed} (record { sample = noisy ‼ 0; pulse = pulse }) (record { sample = mixed_line pulse noise lpf line ‼ 0; pulse = pulse_after pulse })) × (noisy ≡ mixed_line pulse noise lpf line)
-  mix_unvoiced noise lpf line noisy v ew =
-      let all : noisy ≡ mixed_line pulse noise lpf line = ew ∙ sym (line_unvoiced noise lpf line v) in
-      (rw (all, after_unvoiced v) refl, all)
+  -- the line that `mix` leaves, by what its steps answer
+  pub mix_voiced : (noise : Float) (lpf line noisy both : List Float) (p : Pulsed) → voiced pulse.pitch ≡ true → noisy ≡ with_noise noise line → p ≡ pulse_of pulse → both ≡ with_pulse (p.sample ⊖ noise) lpf noisy
+      → both ≡ mixed_line pulse noise lpf line
+  mix_voiced noise lpf line noisy both p v ew ep eb = eb ∙ rw (ep, ew) (sym (line_voiced noise lpf line v))

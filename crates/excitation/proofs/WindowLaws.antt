@@ -1,5 +1,5 @@
 -- A sample in the window: the next line stands one place on, and only zeros are past it. Assumes nothing.
-use mathlib.Core.Path.{◌≡◌, refl, sym, ap, ◌∙◌, subst}
+use mathlib.Core.Path.{◌≡◌, refl, sym, ap, ◌∙◌}
 use mathlib.Core.List.{List, [], ◌∷◌, ◌++◌}
 use Prim.Native.Nat.{ℕ, ◌+◌, ◌-◌, ◌≤◌, ◌<◌}
 use native.Mathlib.Omega.{arith}
@@ -9,13 +9,13 @@ use lib.Seq.{length-take-le, get_or-drop, drop-drop, take_at, drop_at, drop-appe
 use borrow.Author.Tests.{ne_eqb}
 use Rattle.number.specs.F64.{◌‼◌, 0f}
 use Rattle.number.specs.Lists.{row, put_row}
-use Rattle.number.proofs.Lists.{left_next, put_row_rest, put_row_row, length_row, length_put_row, put_row_after, row_put_row}
+use Rattle.number.proofs.Lists.{left_next, put_row_rest, put_row_row, length_row, length_put_row, put_row_after}
 use Rattle.history.specs.Steps.{dry, one}
 use Rattle.noise.specs.declared.Random.{Random}
 use Rattle.pulse.specs.declared.Pulse.{Pulse}
 use Rattle.delay.specs.Line.{shifted}
 use Rattle.excitation.specs.Excitation.{state, mixed_step, step_of}
-use Rattle.excitation.specs.Window.{line_at, ZeroFrom, Stretches}
+use Rattle.excitation.specs.Window.{line_at, ZeroFrom}
 use Rattle.excitation.proofs.GetLaws.{step_mixed}
 
 module _ (i taps : ℕ) (window : List Float) where
@@ -63,25 +63,6 @@ module _ (i taps : ℕ) (window : List Float) where
           let on : drop (i + 1) (put_row i e part window) ≡ drop 1 part ++ (0f ∷ rest) =
           sym (drop-drop 1 i (put_row i e part window)) ∙ ap (λ (l : List Float). drop 1 (drop i l)) (put_row_rest i e window (omega arith) part) ∙ ap (drop 1) (drop_at (take i window) (part ++ drop e window) i front) ∙ drop-append-le 1 part (drop e window) (omega arith) ∙ ap (λ (l : List Float). drop 1 part ++ l) past in
           ap (take taps) (on ∙ sym (append_snoc (drop 1 part) 0f rest)) ∙ take_at (drop 1 part ++ (0f ∷ [])) rest taps size
-
--- ---- the line in the front of a window of zeros
-module _ (taps : ℕ) (window line : List Float) (room : taps ≤ length window) (whole : length line ≡ taps) where
-  pub front_length : length (put_row 0 taps line window) ≡ length window
-  front_length = length_put_row 0 taps window (omega arith) room line (omega arith)
-
-  pub front_line : line_at 0 taps (put_row 0 taps line window) ≡ line
-  front_line =
-      let n : taps ≡ taps - 0 = omega arith in
-      ap (λ (k : ℕ). take k (put_row 0 taps line window)) n ∙ row_put_row 0 taps window (omega arith) room line (omega arith)
-
-  pub front_zeros : ZeroFrom 0 window → ZeroFrom taps (put_row 0 taps line window)
-  front_zeros zeros = rw (front_length, put_row_after 0 taps window (omega arith) room line (omega arith)) (ap (drop taps) zeros)
-
--- the same stretch, its lines by other names
-pub other_lines : (lpf : List Float) (p q : Pulse) (y z : Random) (l m l' m' : List Float) (made : ℕ) (before out : List Float) → l ≡ l' → m ≡ m'
-    → Stretches lpf (state p y l) (state q z m) made before out → Stretches lpf (state p y l') (state q z m') made before out
-other_lines lpf p q y z l m l' m' made before out el em s =
-    subst (λ (k : List Float). Stretches lpf (state p y l') (state q z k) made before out) em (subst (λ (k : List Float). Stretches lpf (state p y k) (state q z m) made before out) el s)
 
 -- ---- what the sample comes to, by what `get_mixed` answers
 module _ (bound : ℕ) (lpf : List Float) (pulse : Pulse) (random : Random) (i taps : ℕ) (window : List Float) (some : 0 < taps) (room : i + taps < length window) where

@@ -1,5 +1,5 @@
 -- The definitions at computed points. Assumes nothing.
-use Rattle.std.specs.Prelude.{◌≡◌, refl, List, [], ◌∷◌, ◌++◌, false, pos, negsuc, replicate, Float}
+use Rattle.std.specs.Prelude.{◌≡◌, refl, List, [], ◌∷◌, ◌++◌, false, pos, negsuc, replicate, Float, Some}
 use Rattle.std.specs.Float.{fin, binary64}
 use Rattle.std.specs.Float.Ieee.{of_bits, add, sub, mul, neg, eq, ne, lt, le}
 use Rattle.number.specs.F64.{−◌, 0f, ½f, 1f, 2f}
@@ -7,7 +7,6 @@ use Rattle.root.specs.Root.{floor_root, nearest_root, units_of, root_of_units, r
 use Rattle.history.specs.Steps.{stopped, steps}
 use Rattle.noise.specs.Draw.{tries}
 use Rattle.noise.specs.Noise.{found_of, pair_of, filling_of, noise_of, fresh_random}
-use Rattle.pulse.specs.declared.Pitch.TheVariants.{Voiced}
 use Rattle.pulse.specs.Train.{train, fresh_pulse, start_of, pulse_of, pulse_after}
 use Rattle.delay.specs.Line.{with_noise, with_pulse, shifted}
 use Rattle.excitation.specs.Excitation.{state, plain_step, mixed_line, mixed_step, step_of, stretch_of}
@@ -29,7 +28,7 @@ abbrev 4f : Float
 4f = of_bits binary64 0x4010_0000_0000_0000
 
 -- document 01, item 8: pitch 4 from rest, nlpf 0
-pub eight : (stretch_of tries [] 8 (state (start_of fresh_pulse (Voiced 4f) 8) fresh_random [])).made ≡ 2f ∷ 0f ∷ 0f ∷ 2f ∷ 0f ∷ 0f ∷ 0f ∷ 2f ∷ []
+pub eight : (stretch_of tries [] 8 (state (start_of fresh_pulse (Some 4f) 8) fresh_random [])).made ≡ 2f ∷ 0f ∷ 0f ∷ 2f ∷ 0f ∷ 0f ∷ 0f ∷ 2f ∷ []
 unfolding steps step_of plain_step pulse_of start_of ne eq le lt add sub neg root_of root_of_units units_of nearest_root floor_root of_bits
 eight = refl
 

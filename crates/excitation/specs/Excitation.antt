@@ -1,12 +1,10 @@
 -- The excitation, sample by sample: the state in, and a sample with the state after it, or dry. Assumes nothing.
-use Rattle.std.specs.Prelude.{List, cond, ℕ, eqb, length, Float}
+use Rattle.std.specs.Prelude.{List, cond, ℕ, eqb, length, Float, Option, None, Some}
 use Rattle.number.specs.F64.{◌⊖◌, ◌‼◌}
 use Rattle.history.specs.Steps.{Step, dry, one, Run, steps}
 use Rattle.noise.specs.declared.Random.{Random}
 use Rattle.noise.specs.Noise.{noise_of}
 use Rattle.pulse.specs.declared.Pulse.{Pulse}
-use Rattle.excitation.specs.declared.Sample.{Sample}
-use Rattle.excitation.specs.declared.Sample.TheVariants.{Dry, Made}
 use Rattle.pulse.specs.Train.{voiced, pulse_of, pulse_after}
 use Rattle.delay.specs.Line.{with_noise, with_pulse, shifted}
 
@@ -18,9 +16,6 @@ pub record Excitation : Type 0 where
 
 abbrev pub state : Pulse → Random → List Float → Excitation
 state pulse random line = record { pulse = pulse; random = random; line = line }
-
-abbrev pub excitation : Pulse → ℕ → ℕ → List Float → List Float → Excitation
-excitation pulse next used queue line = state pulse (record { next = next; used = used; queue = queue }) line
 
 -- where a value of the noise can be had, what is made of it
 abbrev pub following : Step Random Float → (Float → Random → Step Excitation Float) → Step Excitation Float
@@ -59,7 +54,7 @@ step_of bound lpf s = cond (eqb (length s.line) 0) (plain_step bound s) (mixed_s
 abbrev pub stretch_of : ℕ → List Float → ℕ → Excitation → Run Excitation Float
 stretch_of bound lpf n s = steps (step_of bound lpf) n s
 
--- what `get` answers, beside the queue and the line that it leaves, as that step
-abbrev pub sampled_of : Sample → List Float → List Float → Step Excitation Float
-sampled_of Dry queue line = dry
-sampled_of (Made x pulse next used) queue line = one x (excitation pulse next used queue line)
+-- what `get` answers, beside the state that it leaves, as that step
+abbrev pub sampled_of : Option Float → Excitation → Step Excitation Float
+sampled_of None after = dry
+sampled_of (Some x) after = one x after

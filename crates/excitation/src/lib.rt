@@ -15,13 +15,6 @@ use crate::window::by_pieces;
 use noise::Random;
 use pulse::Pulse;
 
-// A sample, with the pulse train and the noise's `next` and `used` after it; or dry.
-#[derive(Clone, Copy)]
-pub enum Sample {
-    Dry,
-    Made(f64, Pulse, u64, usize),
-}
-
 // What a stretch came to: how many samples were made, and the pulse train and the noise after the last of them.
 #[repr(C)]
 #[derive(Clone, Copy)]
@@ -31,43 +24,23 @@ pub struct Filled {
     pub random: Random,
 }
 
-// A stretch, sample by sample: for a line of no taps, and for one that the window has no room for.
+// A stretch, sample by sample: for a line of no taps, and for one that the window has no room for. Answers how many samples were made.
 fn one_by_one(
-    pulse: Pulse,
-    random: Random,
+    pulse: &mut Pulse,
+    random: &mut Random,
     line: &mut [f64],
     lpf: &[f64],
     out: &mut [f64],
-) -> Filled
-    ensures { Stretches lpf.now (state pulse random line.old)
-        (state result.pulse result.random line.new) result.made out.old out.new }
+) -> usize
+    ensures { Stretches lpf.now (state pulse.old random.old line.old) (state pulse.new random.new line.new) result out.old out.new }
 {
-    let mut now_pulse = pulse;
-    let mut next = random.next;
-    let mut used = random.used;
-    let mut queue = random.queue;
-    let n = out.len();
-    let mut i = 0;
-    while i < n {
-        let sample = get(now_pulse, next, used, &mut queue, line, lpf);
-        match sample {
-            Sample::Made(x, p, m, u) => {
-                out[i] = x;
-                now_pulse = p;
-                next = m;
-                used = u;
-                i += 1;
-            }
-            Sample::Dry => {
-                break;
-            }
-        }
+    for i in 0..out.len() {
+        let Some(sample) = get(pulse, random, line, lpf) else {
+            return i;
+        };
+        out[i] = sample;
     }
-    Filled {
-        made: i,
-        pulse: now_pulse,
-        random: Random { next, used, queue },
-    }
+    out.len()
 }
 
 // Fills `out` with as many samples as can be had. nlpf is the length of the line.
@@ -84,9 +57,13 @@ pub fn stretch(
     ensures out_after { out.new
         ≡ over (stretch_of tries lpf.now (length out.old) (state pulse random line.old)).made result.made out.old }
 {
+    let mut pulse = pulse;
+    let mut random = random;
     let taps = line.len();
-    if taps == 0 || taps > 64 {
-        return one_by_one(pulse, random, line, lpf, out);
-    }
-    by_pieces(pulse, random, line, lpf, out)
+    let made = if taps == 0 || taps > 64 {
+        one_by_one(&mut pulse, &mut random, line, lpf, out)
+    } else {
+        by_pieces(&mut pulse, &mut random, line, lpf, out)
+    };
+    Filled { made, pulse, random }
 }

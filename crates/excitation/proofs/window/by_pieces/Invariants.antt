@@ -4,7 +4,7 @@ use Prim.Native.Nat.{◌-◌, ◌≤◌}
 use lib.ListN.{length}
 use Rattle.history.proofs.StepLaws.{Reached}
 use Rattle.noise.specs.Draw.{tries}
-use Rattle.excitation.specs.Excitation.{excitation, step_of}
+use Rattle.excitation.specs.Excitation.{state, step_of}
 use Rattle.excitation.proofs.window.by_pieces.Given as goal
 
 abbrev pub invariant-loop-i : goal.invariant-loop-i
@@ -13,8 +13,7 @@ invariant-loop-i l =
     × (l.i ≤ l.n)
     × (length l.line ≡ length l.initial.line)
     × (length l.out ≡ length l.initial.out)
-    × (length l.queue ≡ 64)
-    × Reached (step_of tries l.lpf) l.i (excitation l.initial.last_pulse l.initial.next l.initial.used l.initial.queue l.initial.line) (excitation l.last_pulse l.next l.used l.queue l.line) l.out l.initial.out
+    × Reached (step_of tries l.lpf) l.i (state l.initial.pulse l.initial.random l.initial.line) (state l.pulse l.random l.line) l.out l.initial.out
 
 abbrev pub decreases-loop-i : goal.decreases-loop-i
 decreases-loop-i l = l.n - l.i
