@@ -15,10 +15,10 @@ ghost use Rattle.excitation.specs.Excitation.{state, stretch_of};
 ghost use Rattle.noise.specs.Draw.{tries};
 ghost use Rattle.exports.specs.Exported.{pitch_of, count_of};
 
-use elementary::answer::Answer;
+use elementary::answer::Outside;
 use excitation::Filled;
 use noise::Random;
-use pulse::{Pitch, Pulse};
+use pulse::Pulse;
 
 #[unsafe(no_mangle)]
 pub extern "C" fn kipawnore_sqrt(x: f64) -> f64
@@ -56,13 +56,10 @@ pub extern "C" fn kipawnore_float_of(b: u64) -> f64
 }
 
 // The number of an answer, and the NaN for one that is outside: no number inside is the NaN.
-fn number_of(answer: Answer) -> f64
+fn number_of(answer: Result<f64, Outside>) -> f64
     ensures { result ≡ number_of answer }
 {
-    match answer {
-        Answer::Inside(y) => y,
-        Answer::Outside => 0.0 / 0.0,
-    }
+    answer.unwrap_or(0.0 / 0.0)
 }
 
 #[unsafe(no_mangle)]
@@ -100,32 +97,12 @@ pub extern "C" fn kipawnore_inverse_root(a: f64, s: u64) -> f64
     number_of(power::inverse_root(a, s))
 }
 
-// The pitch of a frame, from a flag and a period.
-fn pitch(voiced: bool, period: f64) -> Pitch
-    ensures { result ≡ pitch_of voiced period }
-{
-    if voiced {
-        return Pitch::Voiced(period);
-    }
-    Pitch::Unvoiced
-}
-
-// fperiod, or 2^53 where it is more.
-fn count(fperiod: u64) -> u64
-    ensures { result ≡ count_of fperiod }
-{
-    if fperiod < 9007199254740992 {
-        return fperiod;
-    }
-    9007199254740992
-}
-
-// A frame of fperiod samples begins: unvoiced, or voiced with a period in samples.
+// A frame of fperiod samples, or of 2^53 where it is more, begins: unvoiced, or voiced with a period in samples. The C interface takes a flag and a period.
 #[unsafe(no_mangle)]
 pub extern "C" fn kipawnore_start(pulse: Pulse, voiced: bool, period: f64, fperiod: u64) -> Pulse
     ensures { result ≡ start_of pulse (pitch_of voiced period) (count_of fperiod) }
 {
-    pulse.start(pitch(voiced, period), count(fperiod))
+    pulse.start(voiced.then_some(period), fperiod.min(9007199254740992))
 }
 
 // A frame ends.

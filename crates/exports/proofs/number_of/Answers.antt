@@ -1,13 +1,17 @@
 -- An answer as one float. Assumes nothing.
-use lib.Ieee.{of_bits, div}
+use mathlib.Core.Path.{◌≡◌, refl, ◌∙◌}
+use lib.Ieee.{Float, of_bits, div}
+use Rattle.std.specs.Prelude.{Result, Ok, Err}
+use Rattle.std.specs.Result.{result_unwrap_or}
+use Rattle.number.specs.F64.{◌⊘◌, 0f}
+use Rattle.elementary.specs.declared.answer.Outside.{Outside}
 use Rattle.elementary.specs.Band.{number_of}
-use borrow.Author.Rules.{rules}
 use Rattle.exports.proofs.number_of.Goals as goal
 
-pub returns-in-Inside : goal.returns-in-Inside
-unfolding number_of
-returns-in-Inside c = search rules
-
-pub returns-in-Outside : goal.returns-in-Outside
+number_is : (answer : Result Float Outside) → result_unwrap_or answer (0f ⊘ 0f) ≡ number_of answer
 unfolding number_of of_bits div
-returns-in-Outside c = search rules
+number_is (Ok y) = refl
+number_is (Err o) = refl
+
+pub returns : goal.returns
+returns c = c.unwrap_or.ensures ∙ number_is c.args.answer

@@ -2,12 +2,12 @@
 use mathlib.Core.Path.{◌≡◌, refl, ap}
 use lib.Ieee.{Float}
 use Rattle.elementary.specs.Band.{number_of}
-use Rattle.elementary.specs.declared.answer.Answer.TheVariants.{Inside}
+use Rattle.std.specs.Prelude.{Ok}
 use Rattle.logarithm.specs.Ln.{ln_of}
 use Rattle.noise.specs.Gathering.{weight_of}
 use Rattle.noise.proofs.pair.weight.Goals as goal
 
-number_is : (s y : Float) → Inside y ≡ ln_of s → y ≡ number_of (ln_of s)
+number_is : (s y : Float) → Ok y ≡ ln_of s → y ≡ number_of (ln_of s)
 unfolding number_of
 number_is s y e = ap number_of e
 
