@@ -9,19 +9,22 @@ ghost use Rattle.std.specs.Prelude.{◌≡◌, ◌+◌, ◌*◌, ◌≤◌, leng
 mod read;
 
 use excitation::Filled;
+use noise::Random;
+use pulse::Pulse;
 use std::io;
 
 // Writes the pulse train and the noise after a stretch.
 fn print_state(rt: &impl Print, filled: Filled) -> io::Result<()> {
-    let pulse = filled.pulse;
-    words::print_float(rt, pulse.pitch)?;
-    words::print_float(rt, pulse.counter)?;
-    words::print_float(rt, pulse.increment)?;
-    words::print_float(rt, pulse.end)?;
-    let random = filled.random;
-    words::print_word(rt, random.next)?;
-    words::print_word(rt, random.used as u64)?;
-    let queue = random.queue;
+    let Pulse {
+        pitch,
+        counter,
+        increment,
+        end,
+    } = filled.pulse;
+    words::print_floats(rt, &[pitch, counter, increment, end])?;
+    let Random { next, used, queue } = filled.random;
+    words::print_word(rt, next)?;
+    words::print_word(rt, used as u64)?;
     words::print_floats(rt, &queue)
 }
 
@@ -44,7 +47,7 @@ fn replay_case(
     let filled = excitation::stretch(pulse, random, line, lpf, out);
     let made = filled.made;
     words::print_word(rt, made as u64)?;
-    words::print_floats(rt, &out[0..made])?;
+    words::print_floats(rt, &out[..made])?;
     print_state(rt, filled)?;
     words::print_floats(rt, line)
 }
@@ -67,22 +70,19 @@ fn replay_in_arrays(
         rt,
         text,
         at,
-        &mut line[0..nlpf],
-        &mut lpf[0..nlpf],
-        &mut out[0..n],
+        &mut line[..nlpf],
+        &mut lpf[..nlpf],
+        &mut out[..n],
     )
 }
 
-// Replays the cases, one after the other. Each has 72 words, and two more for each tap.
+// Replays the cases, one after the other. Each has 72 words, and two more for each tap. A while: each case says how long it is.
 fn replay(rt: &impl Print, text: &[u8]) -> io::Result<()> {
     let mut at = 0;
     while 17 * 72 <= text.len() - at {
         let nlpf = words::word(text, at) as usize;
         let n = words::word(text, at + 17) as usize;
-        if nlpf > 64 {
-            return Ok(());
-        }
-        if n > 64 {
+        if nlpf > 64 || n > 64 {
             return Ok(());
         }
         let size = 17 * (72 + 2 * nlpf);
