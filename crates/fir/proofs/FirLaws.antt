@@ -7,33 +7,29 @@ use lib.Ieee.{Float}
 use lib.ListN.{length, set}
 use Rattle.number.specs.F64.{◌‼◌}
 use Rattle.fir.specs.declared.Carried.{Carried}
-use Rattle.fir.specs.declared.One.{One}
-use Rattle.fir.specs.declared.Two.{Two}
-use Rattle.fir.specs.declared.Four.{Four}
 use Rattle.fir.specs.Fir.{Taps, start, group, tap, groups, singles, taps}
 
 -- ---- taps of a list, by what they come to where they stand by themselves
 
-pub start_alone : (a x : Float) (l : List Float) (m : Two) → ◌≡◌ {A = Taps} (record { d = m.e0 ∷ m.e1 ∷ []; on = m.on }) (start a x (l ‼ 1 ∷ l ‼ 1 ∷ []))
-    → ◌≡◌ {A = Taps} (record { d = set (set l 0 m.e0) 1 m.e1; on = m.on }) (start a x l)
-start_alone a x l m e = ap two e
+pub start_alone : (a x : Float) (l made : List Float) (on : Carried) → ◌≡◌ {A = Taps} (record { d = made; on = on }) (start a x (l ‼ 1 ∷ l ‼ 1 ∷ []))
+    → ◌≡◌ {A = Taps} (record { d = set (set l 0 (made ‼ 0)) 1 (made ‼ 1); on = on }) (start a x l)
+start_alone a x l made on e = ap two e
   where
     two : Taps → Taps
     two t = record { d = set (set l 0 (t.d ‼ 0)) 1 (t.d ‼ 1); on = t.on }
 
-module _ (a : Float) (c l : List Float) (i : ℕ) (s : Carried) where
-  pub group_alone : (m : Four)
-      → ◌≡◌ {A = Taps} (record { d = m.e0 ∷ m.e1 ∷ m.e2 ∷ m.e3 ∷ []; on = m.on })
+module _ (a : Float) (c l : List Float) (i : ℕ) (s : Carried) (made : List Float) (on : Carried) where
+  pub group_alone : ◌≡◌ {A = Taps} (record { d = made; on = on })
       (group a (c ‼ i ∷ c ‼ (i + 1) ∷ c ‼ (i + 2) ∷ c ‼ (i + 3) ∷ []) 0 (record { d = l ‼ i ∷ l ‼ (i + 1) ∷ l ‼ (i + 2) ∷ l ‼ (i + 3) ∷ []; on = s }))
-      → ◌≡◌ {A = Taps} (record { d = set (set (set (set l i m.e0) (i + 1) m.e1) (i + 2) m.e2) (i + 3) m.e3; on = m.on }) (group a c i (record { d = l; on = s }))
-  group_alone m e = ap four e
+      → ◌≡◌ {A = Taps} (record { d = set (set (set (set l i (made ‼ 0)) (i + 1) (made ‼ 1)) (i + 2) (made ‼ 2)) (i + 3) (made ‼ 3); on = on }) (group a c i (record { d = l; on = s }))
+  group_alone e = ap four e
     where
       four : Taps → Taps
       four t = record { d = set (set (set (set l i (t.d ‼ 0)) (i + 1) (t.d ‼ 1)) (i + 2) (t.d ‼ 2)) (i + 3) (t.d ‼ 3); on = t.on }
 
-  pub tap_alone : (m : One) → ◌≡◌ {A = Taps} (record { d = m.e0 ∷ []; on = m.on }) (tap a (c ‼ i ∷ []) 0 (record { d = l ‼ i ∷ []; on = s }))
-      → ◌≡◌ {A = Taps} (record { d = set l i m.e0; on = m.on }) (tap a c i (record { d = l; on = s }))
-  tap_alone m e = ap one e
+  pub tap_alone : ◌≡◌ {A = Taps} (record { d = made; on = on }) (tap a (c ‼ i ∷ []) 0 (record { d = l ‼ i ∷ []; on = s }))
+      → ◌≡◌ {A = Taps} (record { d = set l i (made ‼ 0); on = on }) (tap a c i (record { d = l; on = s }))
+  tap_alone e = ap one e
     where
       one : Taps → Taps
       one t = record { d = set l i (t.d ‼ 0); on = t.on }

@@ -12,38 +12,19 @@ pub struct Carried {
     pub y1: f64,
 }
 
-// The first two taps anew, and what is carried on past them.
+// N taps anew, and what is carried on past them.
 #[derive(Clone, Copy)]
-pub struct Two {
-    pub e0: f64,
-    pub e1: f64,
-    pub on: Carried,
-}
-
-// Four taps anew, and what is carried on past them.
-#[derive(Clone, Copy)]
-pub struct Four {
-    pub e0: f64,
-    pub e1: f64,
-    pub e2: f64,
-    pub e3: f64,
-    pub on: Carried,
-}
-
-// A tap anew, and what is carried on past it.
-#[derive(Clone, Copy)]
-pub struct One {
-    pub e0: f64,
+pub struct Made<const N: usize> {
+    pub d: [f64; N],
     pub on: Carried,
 }
 
 // The first two taps, of which only the second is read.
-pub fn first_two(a: f64, x: f64, d1: f64) -> Two
-    ensures { record { d = result.e0 ∷ result.e1 ∷ []; on = result.on } ≡ start a x (d1 ∷ d1 ∷ []) }
+pub fn first_two(a: f64, x: f64, d1: f64) -> Made<2>
+    ensures { record { d = result.d; on = result.on } ≡ start a x (d1 ∷ d1 ∷ []) }
 {
-    Two {
-        e0: a * x,
-        e1: (1.0 - a * a) * x + a * d1,
+    Made {
+        d: [a * x, (1.0 - a * a) * x + a * d1],
         on: Carried {
             rem: -a * x + d1,
             y0: 0.0,
@@ -53,21 +34,11 @@ pub fn first_two(a: f64, x: f64, d1: f64) -> Two
 }
 
 // Four taps, each from the old ones, with their coefficients.
-pub fn next_four(
-    a: f64,
-    d0: f64,
-    d1: f64,
-    d2: f64,
-    d3: f64,
-    c0: f64,
-    c1: f64,
-    c2: f64,
-    c3: f64,
-    s: Carried,
-) -> Four
-    ensures { record { d = result.e0 ∷ result.e1 ∷ result.e2 ∷ result.e3 ∷ []; on = result.on }
-        ≡ group a (c0 ∷ c1 ∷ c2 ∷ c3 ∷ []) 0 (record { d = d0 ∷ d1 ∷ d2 ∷ d3 ∷ []; on = s }) }
+pub fn next_four(a: f64, d: [f64; 4], c: [f64; 4], s: Carried) -> Made<4>
+    ensures { record { d = result.d; on = result.on } ≡ group a c 0 (record { d = d; on = s }) }
 {
+    let [d0, d1, d2, d3] = d;
+    let [c0, c1, c2, c3] = c;
     let aa = a * a;
     let aaaa = aa * aa;
     let iaa = 1.0 - aa;
@@ -81,12 +52,15 @@ pub fn next_four(
         y0: s.y0 + (c0 * e0 + c2 * e2),
         y1: s.y1 + (c1 * e1 + c3 * e3),
     };
-    Four { e0, e1, e2, e3, on }
+    Made {
+        d: [e0, e1, e2, e3],
+        on,
+    }
 }
 
 // One tap, with its coefficient.
-pub fn next_one(a: f64, d0: f64, c0: f64, s: Carried) -> One
-    ensures { record { d = result.e0 ∷ []; on = result.on } ≡ tap a (c0 ∷ []) 0 (record { d = d0 ∷ []; on = s }) }
+pub fn next_one(a: f64, d0: f64, c0: f64, s: Carried) -> Made<1>
+    ensures { record { d = result.d; on = result.on } ≡ tap a (c0 ∷ []) 0 (record { d = d0 ∷ []; on = s }) }
 {
     let e0 = (1.0 - a * a) * s.rem + a * d0;
     let on = Carried {
@@ -94,7 +68,7 @@ pub fn next_one(a: f64, d0: f64, c0: f64, s: Carried) -> One
         y0: s.y0 + c0 * e0,
         y1: s.y1,
     };
-    One { e0, on }
+    Made { d: [e0], on }
 }
 
 // The first two taps.
@@ -103,8 +77,8 @@ pub fn start(d: &mut [f64], a: f64, x: f64) -> Carried
     ensures { record { d = d.exit.now; on = result } ≡ start a x d.entry.now }
 {
     let made = first_two(a, x, d[1]);
-    d[0] = made.e0;
-    d[1] = made.e1;
+    d[0] = made.d[0];
+    d[1] = made.d[1];
     made.on
 }
 
@@ -115,20 +89,14 @@ pub fn group(d: &mut [f64], a: f64, c: &[f64], i: usize, s: Carried) -> Carried
 {
     let made = next_four(
         a,
-        d[i],
-        d[i + 1],
-        d[i + 2],
-        d[i + 3],
-        c[i],
-        c[i + 1],
-        c[i + 2],
-        c[i + 3],
+        [d[i], d[i + 1], d[i + 2], d[i + 3]],
+        [c[i], c[i + 1], c[i + 2], c[i + 3]],
         s,
     );
-    d[i] = made.e0;
-    d[i + 1] = made.e1;
-    d[i + 2] = made.e2;
-    d[i + 3] = made.e3;
+    d[i] = made.d[0];
+    d[i + 1] = made.d[1];
+    d[i + 2] = made.d[2];
+    d[i + 3] = made.d[3];
     made.on
 }
 
@@ -138,6 +106,6 @@ pub fn tap(d: &mut [f64], a: f64, c: &[f64], i: usize, s: Carried) -> Carried
     ensures { record { d = d.exit.now; on = result } ≡ tap a c.now i (record { d = d.entry.now; on = s }) }
 {
     let made = next_one(a, d[i], c[i], s);
-    d[i] = made.e0;
+    d[i] = made.d[0];
     made.on
 }

@@ -4,4 +4,4 @@ use Rattle.fir.proofs.group.Goals as goal
 
 pub returns : goal.returns
 returns c =
-    group_alone _ c.args.c.now c.args.d.now c.args.i _ _ c.next_four-made.ensures
+    group_alone _ c.args.c.now c.args.d.now c.args.i _ _ _ c.next_four-made.ensures

@@ -4,4 +4,4 @@ use Rattle.fir.proofs.start.Goals as goal
 
 pub returns : goal.returns
 returns c =
-    start_alone _ _ c.args.d.now _ c.first_two-made.ensures
+    start_alone _ _ c.args.d.now _ _ c.first_two-made.ensures

@@ -4,4 +4,4 @@ use Rattle.fir.proofs.tap.Goals as goal
 
 pub returns : goal.returns
 returns c =
-    tap_alone _ c.args.c.now c.args.d.now c.args.i _ _ c.next_one-made.ensures
+    tap_alone _ c.args.c.now c.args.d.now c.args.i _ _ _ c.next_one-made.ensures
