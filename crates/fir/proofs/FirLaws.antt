@@ -36,19 +36,22 @@ module _ (a : Float) (c l : List Float) (i : ℕ) (s : Carried) (made : List Flo
 
 -- ---- a turn of the loops
 
-module _ (a : Float) (c : List Float) (n i : ℕ) (t : Taps) where
-  pub group_turn : i + 4 ≤ n → groups a c ((n - (i + 4)) / 4) (i + 4) (group a c i t) ≡ groups a c ((n - i) / 4) i t
+module _ (a : Float) (c : List Float) (m g : ℕ) (t : Taps) where
+  -- group g of m, which begin at index 2
+  pub group_turn : g < m → groups a c (m - (g + 1)) (2 + 4 * (g + 1)) (group a c (2 + 4 * g) t) ≡ groups a c (m - g) (2 + 4 * g) t
   unfolding groups
   group_turn h =
-      let fewer : (n - i) / 4 ≡ suc ((n - (i + 4)) / 4) = omega arith in
-      rw fewer refl
+      let left : m - g ≡ suc (m - (g + 1)) = omega arith in
+      let on : 2 + 4 * (g + 1) ≡ 2 + 4 * g + 4 = omega arith in
+      rw (left, on) refl
 
-  pub groups_end : n < i + 4 → groups a c ((n - i) / 4) i t ≡ t
+  pub groups_end : m ≤ g → groups a c (m - g) (2 + 4 * g) t ≡ t
   unfolding groups
   groups_end h =
-      let none : (n - i) / 4 ≡ 0 = omega arith in
+      let none : m - g ≡ 0 = omega arith in
       rw none refl
 
+module _ (a : Float) (c : List Float) (n i : ℕ) (t : Taps) where
   pub tap_turn : i < n → singles a c (n - (i + 1)) (i + 1) (tap a c i t) ≡ singles a c (n - i) i t
   unfolding singles
   tap_turn h =

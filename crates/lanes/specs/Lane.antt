@@ -4,7 +4,6 @@ use Rattle.number.specs.F64.{◌‼◌, 0f, ½f, 1f, 2f}
 use Rattle.fir.specs.declared.Carried.{Carried}
 use Rattle.fir.specs.Fir.{Taps}
 use Rattle.lanes.specs.declared.Pair.{Pair}
-use Rattle.lanes.specs.declared.Abreast.{Abreast}
 
 -- the first n entries of lane k
 unfoldable pub lane : ℕ → ℕ → List Float → List Float
@@ -12,25 +11,25 @@ lane k zero l = []
 lane k (suc n) l = l ‼ k ∷ lane k n (drop 2 l)
 
 -- of a number for each lane, that of lane k
-abbrev pub side : ℕ → Pair → Float
+abbrev pub side : ℕ → Pair Float → Float
 side zero p = p.a
 side (suc k) p = p.b
 
 -- entry i of each lane
-abbrev pub pair_at : List Float → ℕ → Pair
+abbrev pub pair_at : List Float → ℕ → Pair Float
 pair_at l i = record { a = l ‼ (2 * i); b = l ‼ (2 * i + 1) }
 
 -- the list with the entries i of the lanes set
-abbrev pub put_pair : List Float → ℕ → Pair → List Float
+abbrev pub put_pair : List Float → ℕ → Pair Float → List Float
 put_pair l i p = set (set l (2 * i) p.a) (2 * i + 1) p.b
 
 -- of what is carried for each lane, that of lane k
-abbrev pub side_on : ℕ → Abreast → Carried
+abbrev pub side_on : ℕ → Pair Carried → Carried
 side_on zero s = s.a
 side_on (suc k) s = s.b
 
 -- the taps of lane k, and what is carried on to its next
-abbrev pub taps_of : ℕ → ℕ → List Float → Abreast → Taps
+abbrev pub taps_of : ℕ → ℕ → List Float → Pair Carried → Taps
 taps_of k n l s = record { d = lane k n l; on = side_on k s }
 
 -- four numbers: lane 1 is ½, 2, and with 0, 1 at entry 1 it is ½, 1

@@ -3,8 +3,7 @@ use Rattle.std.specs.Prelude.{◌≡◌, refl, List, [], ◌∷◌, ℕ, zero, s
 use Rattle.number.specs.F64.{0f, ½f, 1f, 2f}
 use Rattle.fir.specs.declared.Carried.{Carried}
 use Rattle.fir.specs.Fir.{Taps}
-use Rattle.lanes.specs.declared.five.Numbers.{Numbers}
-use Rattle.lanes.specs.declared.five.Along.{Along}
+use Rattle.lanes.specs.declared.five.Five.{Five}
 use Rattle.lanes.specs.Lane.{lane}
 
 -- row k, of n taps
@@ -16,7 +15,7 @@ row_at (suc (suc (suc zero))) n first second last = lane 1 n second
 row_at (suc (suc (suc (suc k)))) n first second last = last
 
 -- the number of row k
-abbrev pub number_at : ℕ → Numbers → Float
+abbrev pub number_at : ℕ → Five Float → Float
 number_at zero x = x.first.a
 number_at (suc zero) x = x.first.b
 number_at (suc (suc zero)) x = x.second.a
@@ -24,7 +23,7 @@ number_at (suc (suc (suc zero))) x = x.second.b
 number_at (suc (suc (suc (suc k)))) x = x.last
 
 -- what is carried on in row k
-abbrev pub carried_at : ℕ → Along → Carried
+abbrev pub carried_at : ℕ → Five Carried → Carried
 carried_at zero s = s.first.a
 carried_at (suc zero) s = s.first.b
 carried_at (suc (suc zero)) s = s.second.a
@@ -32,7 +31,7 @@ carried_at (suc (suc (suc zero))) s = s.second.b
 carried_at (suc (suc (suc (suc k)))) s = s.last
 
 -- the taps of row k, and what is carried on to its next
-abbrev pub taps_at : ℕ → ℕ → (first second last : List Float) → Along → Taps
+abbrev pub taps_at : ℕ → ℕ → (first second last : List Float) → Five Carried → Taps
 taps_at k n first second last s = record { d = row_at k n first second last; on = carried_at k s }
 
 -- two taps each: row 2 is the first lane of the second pair, row 4 the list

@@ -4,23 +4,15 @@ ghost use Rattle.std.specs.Prelude.{◌≡◌, ℕ, ◌+◌, ◌-◌, ◌*◌, �
 ghost use Rattle.fir.specs.Fir.{start, group, tap, groups, singles, fir_of};
 ghost use Rattle.lanes.specs.Rows.{row_at, number_at, taps_at};
 
-use crate::{Abreast, Pair, group, start, tap};
+use crate::{Pair, group, start, tap};
 use fir::Carried;
 
-// A number for each row.
+// What there is for each row: a number, or what is carried from tap to tap.
 #[derive(Clone, Copy)]
-pub struct Numbers {
-    pub first: Pair,
-    pub second: Pair,
-    pub last: f64,
-}
-
-// What is carried from tap to tap, for each row.
-#[derive(Clone, Copy)]
-pub struct Along {
-    pub first: Abreast,
-    pub second: Abreast,
-    pub last: Carried,
+pub struct Five<T> {
+    pub first: Pair<T>,
+    pub second: Pair<T>,
+    pub last: T,
 }
 
 // The first two taps.
@@ -29,14 +21,14 @@ fn start_all(
     second: &mut [f64],
     last: &mut [f64],
     a: f64,
-    x: Numbers,
+    x: Five<f64>,
     n: usize,
-) -> Along
+) -> Five<Carried>
     requires { (1 < n) × (2 * n ≤ length first.old) × (2 * n ≤ length second.old) × (length last.old ≡ n) }
     ensures { (k : ℕ) → k < 5 → taps_at k n first.new second.new last.new result
         ≡ start a (number_at k x) (row_at k n first.old second.old last.old) }
 {
-    Along {
+    Five {
         first: start(first, a, x.first, n),
         second: start(second, a, x.second, n),
         last: fir::start(last, a, x.last),
@@ -51,13 +43,13 @@ fn group_all(
     a: f64,
     c: &[f64],
     i: usize,
-    s: Along,
-) -> Along
+    s: Five<Carried>,
+) -> Five<Carried>
     requires { (i + 3 < length c.now) × (2 * length c.now ≤ length first.old) × (2 * length c.now ≤ length second.old) × (length last.old ≡ length c.now) }
     ensures { (k : ℕ) → k < 5 → taps_at k (length c.now) first.new second.new last.new result
         ≡ group a c.now i (taps_at k (length c.now) first.old second.old last.old s) }
 {
-    Along {
+    Five {
         first: group(first, a, c, i, s.first),
         second: group(second, a, c, i, s.second),
         last: fir::group(last, a, c, i, s.last),
@@ -72,13 +64,13 @@ fn tap_all(
     a: f64,
     c: &[f64],
     i: usize,
-    s: Along,
-) -> Along
+    s: Five<Carried>,
+) -> Five<Carried>
     requires { (i < length c.now) × (2 * length c.now ≤ length first.old) × (2 * length c.now ≤ length second.old) × (length last.old ≡ length c.now) }
     ensures { (k : ℕ) → k < 5 → taps_at k (length c.now) first.new second.new last.new result
         ≡ tap a c.now i (taps_at k (length c.now) first.old second.old last.old s) }
 {
-    Along {
+    Five {
         first: tap(first, a, c, i, s.first),
         second: tap(second, a, c, i, s.second),
         last: fir::tap(last, a, c, i, s.last),
@@ -92,17 +84,16 @@ fn groups(
     last: &mut [f64],
     a: f64,
     c: &[f64],
-    begun: Along,
-) -> Along
+    begun: Five<Carried>,
+) -> Five<Carried>
     requires { (2 ≤ length c.now) × (2 * length c.now ≤ length first.old) × (2 * length c.now ≤ length second.old) × (length last.old ≡ length c.now) }
     ensures { (k : ℕ) → k < 5 → taps_at k (length c.now) first.new second.new last.new result
         ≡ groups a c.now ((length c.now - 2) / 4) 2 (taps_at k (length c.now) first.old second.old last.old begun) }
 {
     let mut s = begun;
-    let mut i = 2;
-    while i + 4 <= c.len() {
+    for g in 0..(c.len() - 2) / 4 {
+        let i = 2 + 4 * g;
         s = group_all(first, second, last, a, c, i, s);
-        i += 4;
     }
     s
 }
@@ -115,17 +106,15 @@ fn singles(
     a: f64,
     c: &[f64],
     from: usize,
-    begun: Along,
-) -> Along
+    begun: Five<Carried>,
+) -> Five<Carried>
     requires { (from ≤ length c.now) × (2 * length c.now ≤ length first.old) × (2 * length c.now ≤ length second.old) × (length last.old ≡ length c.now) }
     ensures { (k : ℕ) → k < 5 → taps_at k (length c.now) first.new second.new last.new result
         ≡ singles a c.now (length c.now - from) from (taps_at k (length c.now) first.old second.old last.old begun) }
 {
     let mut s = begun;
-    let mut i = from;
-    while i < c.len() {
+    for i in from..c.len() {
         s = tap_all(first, second, last, a, c, i, s);
-        i += 1;
     }
     s
 }
@@ -135,10 +124,10 @@ pub fn fir(
     first: &mut [f64],
     second: &mut [f64],
     last: &mut [f64],
-    x: Numbers,
+    x: Five<f64>,
     alpha: f64,
     c: &[f64],
-) -> Numbers
+) -> Five<f64>
     requires { (2 ≤ length c.now) × (2 * length c.now ≤ length first.old) × (2 * length c.now ≤ length second.old) × (length last.old ≡ length c.now) }
     ensures { (k : ℕ) → k < 5 → record { d = row_at k (length c.now) first.new second.new last.new; y = number_at k result }
         ≡ fir_of alpha (number_at k x) c.now (row_at k (length c.now) first.old second.old last.old) }
@@ -148,7 +137,7 @@ pub fn fir(
     let grouped = groups(first, second, last, alpha, c, begun);
     let from = 2 + (n - 2) / 4 * 4;
     let s = singles(first, second, last, alpha, c, from, grouped);
-    Numbers {
+    Five {
         first: Pair {
             a: s.first.a.y0 + s.first.a.y1,
             b: s.first.b.y0 + s.first.b.y1,

@@ -10,22 +10,15 @@ use fir::Carried;
 
 pub mod five;
 
-// A number for each lane.
+// What there is for each lane: a number, or what is carried from tap to tap.
 #[derive(Clone, Copy)]
-pub struct Pair {
-    pub a: f64,
-    pub b: f64,
-}
-
-// What is carried from tap to tap, for each lane.
-#[derive(Clone, Copy)]
-pub struct Abreast {
-    pub a: Carried,
-    pub b: Carried,
+pub struct Pair<T> {
+    pub a: T,
+    pub b: T,
 }
 
 // Entry i of each lane.
-pub fn at(l: &[f64], i: usize) -> Pair
+pub fn at(l: &[f64], i: usize) -> Pair<f64>
     requires { 2 * i + 1 < length l.now }
     ensures { result ≡ pair_at l.now i }
 {
@@ -45,22 +38,20 @@ pub fn put(l: &mut [f64], i: usize, a: f64, b: f64)
 }
 
 // The first two taps.
-pub(crate) fn start(d: &mut [f64], a: f64, x: Pair, n: usize) -> Abreast
+pub(crate) fn start(d: &mut [f64], a: f64, x: Pair<f64>, n: usize) -> Pair<Carried>
     requires { (1 < n) × (2 * n ≤ length d.old) }
     ensures { (k : ℕ) → k < 2 → taps_of k n d.new result ≡ start a (side k x) (lane k n d.old) }
 {
     let d1 = at(d, 1);
     let ma = fir::first_two(a, x.a, d1.a);
     let mb = fir::first_two(a, x.b, d1.b);
-    put(d, 0, ma.e0, mb.e0);
-    put(d, 1, ma.e1, mb.e1);
-    let on_a = ma.on;
-    let on_b = mb.on;
-    Abreast { a: on_a, b: on_b }
+    put(d, 0, ma.d[0], mb.d[0]);
+    put(d, 1, ma.d[1], mb.d[1]);
+    Pair { a: ma.on, b: mb.on }
 }
 
 // Four taps from index i on: all are read, then made, then stored.
-pub(crate) fn group(d: &mut [f64], a: f64, c: &[f64], i: usize, s: Abreast) -> Abreast
+pub(crate) fn group(d: &mut [f64], a: f64, c: &[f64], i: usize, s: Pair<Carried>) -> Pair<Carried>
     requires { (i + 3 < length c.now) × (2 * length c.now ≤ length d.old) }
     ensures { (k : ℕ) → k < 2 → taps_of k (length c.now) d.new result ≡ group a c.now i (taps_of k (length c.now) d.old s) }
 {
@@ -71,42 +62,24 @@ pub(crate) fn group(d: &mut [f64], a: f64, c: &[f64], i: usize, s: Abreast) -> A
     let d1 = at(d, i1);
     let d2 = at(d, i2);
     let d3 = at(d, i3);
-    let c0 = c[i];
-    let c1 = c[i1];
-    let c2 = c[i2];
-    let c3 = c[i3];
-    let on_a = s.a;
-    let on_b = s.b;
-    let ma = fir::next_four(a, d0.a, d1.a, d2.a, d3.a, c0, c1, c2, c3, on_a);
-    let mb = fir::next_four(a, d0.b, d1.b, d2.b, d3.b, c0, c1, c2, c3, on_b);
-    put(d, i, ma.e0, mb.e0);
-    put(d, i1, ma.e1, mb.e1);
-    put(d, i2, ma.e2, mb.e2);
-    put(d, i3, ma.e3, mb.e3);
-    let next_a = ma.on;
-    let next_b = mb.on;
-    Abreast {
-        a: next_a,
-        b: next_b,
-    }
+    let four = [c[i], c[i1], c[i2], c[i3]];
+    let ma = fir::next_four(a, [d0.a, d1.a, d2.a, d3.a], four, s.a);
+    let mb = fir::next_four(a, [d0.b, d1.b, d2.b, d3.b], four, s.b);
+    put(d, i, ma.d[0], mb.d[0]);
+    put(d, i1, ma.d[1], mb.d[1]);
+    put(d, i2, ma.d[2], mb.d[2]);
+    put(d, i3, ma.d[3], mb.d[3]);
+    Pair { a: ma.on, b: mb.on }
 }
 
 // One tap, at index i.
-pub(crate) fn tap(d: &mut [f64], a: f64, c: &[f64], i: usize, s: Abreast) -> Abreast
+pub(crate) fn tap(d: &mut [f64], a: f64, c: &[f64], i: usize, s: Pair<Carried>) -> Pair<Carried>
     requires { (i < length c.now) × (2 * length c.now ≤ length d.old) }
     ensures { (k : ℕ) → k < 2 → taps_of k (length c.now) d.new result ≡ tap a c.now i (taps_of k (length c.now) d.old s) }
 {
     let d0 = at(d, i);
-    let c0 = c[i];
-    let on_a = s.a;
-    let on_b = s.b;
-    let ma = fir::next_one(a, d0.a, c0, on_a);
-    let mb = fir::next_one(a, d0.b, c0, on_b);
-    put(d, i, ma.e0, mb.e0);
-    let next_a = ma.on;
-    let next_b = mb.on;
-    Abreast {
-        a: next_a,
-        b: next_b,
-    }
+    let ma = fir::next_one(a, d0.a, c[i], s.a);
+    let mb = fir::next_one(a, d0.b, c[i], s.b);
+    put(d, i, ma.d[0], mb.d[0]);
+    Pair { a: ma.on, b: mb.on }
 }

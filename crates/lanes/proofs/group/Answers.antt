@@ -39,5 +39,5 @@ returns c =
     let read3 = pair_read n (c.args.i + 3) c.args.d.now _ c.at-d3.ensures (omega arith) in
     let stored = four_put n c.args.i c.args.d.now _ _ _ _ _ _ _ _ c.put.ensures c.put-2.ensures c.put-3.ensures c.put-4.ensures c.requires.0 c.requires.1 in
     each_lane _
-    (group_stored _ c.args.c.now (lane 0 n c.args.d.now) _ c.args.i _ _ _ _ _ _ (read0 0 (omega arith)) (read1 0 (omega arith)) (read2 0 (omega arith)) (read3 0 (omega arith)) (stored 0 (omega arith)) c.next_four-ma.ensures)
-    (group_stored _ c.args.c.now (lane 1 n c.args.d.now) _ c.args.i _ _ _ _ _ _ (read0 1 (omega arith)) (read1 1 (omega arith)) (read2 1 (omega arith)) (read3 1 (omega arith)) (stored 1 (omega arith)) c.next_four-mb.ensures)
+    (group_stored _ c.args.c.now (lane 0 n c.args.d.now) _ c.args.i _ _ _ _ _ _ _ (read0 0 (omega arith)) (read1 0 (omega arith)) (read2 0 (omega arith)) (read3 0 (omega arith)) (stored 0 (omega arith)) c.next_four-ma.ensures)
+    (group_stored _ c.args.c.now (lane 1 n c.args.d.now) _ c.args.i _ _ _ _ _ _ _ (read0 1 (omega arith)) (read1 1 (omega arith)) (read2 1 (omega arith)) (read3 1 (omega arith)) (stored 1 (omega arith)) c.next_four-mb.ensures)

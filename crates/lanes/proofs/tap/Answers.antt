@@ -16,5 +16,5 @@ returns c =
     let read = pair_read n c.args.i c.args.d.now _ c.at-d0.ensures c.requires.0 in
     let stored = pair_put n c.args.i c.args.d.now _ _ c.put.ensures c.requires.0 c.requires.1 in
     each_lane _
-    (tap_stored _ c.args.c.now (lane 0 n c.args.d.now) _ c.args.i _ _ _ (read 0 (omega arith)) (stored 0 (omega arith)) c.next_one-ma.ensures)
-    (tap_stored _ c.args.c.now (lane 1 n c.args.d.now) _ c.args.i _ _ _ (read 1 (omega arith)) (stored 1 (omega arith)) c.next_one-mb.ensures)
+    (tap_stored _ c.args.c.now (lane 0 n c.args.d.now) _ c.args.i _ _ _ _ (read 0 (omega arith)) (stored 0 (omega arith)) c.next_one-ma.ensures)
+    (tap_stored _ c.args.c.now (lane 1 n c.args.d.now) _ c.args.i _ _ _ _ (read 1 (omega arith)) (stored 1 (omega arith)) c.next_one-mb.ensures)
