@@ -10,7 +10,7 @@ use Rattle.number.specs.F64.{◌‼◌, 0f}
 use Rattle.number.specs.Lists.{row, put_row}
 use Rattle.fir.specs.Fir.{Filtered, fir_of}
 use Rattle.lanes.specs.declared.Pair.{Pair}
-use Rattle.lanes.specs.declared.five.Numbers.{Numbers}
+use Rattle.lanes.specs.declared.five.Five.{Five}
 use Rattle.lanes.specs.Lane.{lane, side, pair_at}
 use Rattle.lanes.specs.Rows.{row_at, number_at}
 use Rattle.lanes.proofs.LaneLaws.{length_lane}
@@ -109,7 +109,7 @@ module _ (alpha : Float) (c : List Float) where
       let behind = f.d ++ drop (4 * n + n - 4 * n) (drop (4 * n) d21) in
       rw (drop_joined n rows (drop (4 * n) d21) each, take_joined n rows (drop (4 * n) d21) behind each, drop_at (take (4 * n) d21) behind (4 * n) front) refl
 
-module _ (alpha : Float) (c first first' second second' last last' d22 : List Float) (heads y : Numbers)
+module _ (alpha : Float) (c first first' second second' last last' d22 : List Float) (heads y : Five Float)
     (at : (k : ℕ) → k < 5 → number_at k heads ≡ d22 ‼ k)
     (made : (k : ℕ) → k < 5 → ◌≡◌ {A = Filtered} (record { d = row_at k (length c) first' second' last'; y = number_at k y }) (fir_of alpha (number_at k heads) c (row_at k (length c) first second last))) where
   -- row 5, whose taps are a row of d21
@@ -172,7 +172,7 @@ module _ (alpha : Float) (c first first' second second' last last' d22 : List Fl
       weighs (flat n first' second' d21') ∙ ap ended (sym (ap (downward (second_row alpha c) 4) laid ∙ four_laid begun (drop (4 * n) d21')))
 
 -- the heads of the rows, as they are read
-pub heads_at : (d22 : List Float) (first second : Pair) (last : Float) → first ≡ pair_at d22 0 → second ≡ pair_at d22 1 → last ≡ d22 ‼ 4
+pub heads_at : (d22 : List Float) (first second : Pair Float) (last : Float) → first ≡ pair_at d22 0 → second ≡ pair_at d22 1 → last ≡ d22 ‼ 4
     → (k : ℕ) → k < 5 → number_at k (record { first = first; second = second; last = last }) ≡ d22 ‼ k
 heads_at d22 first second last e12 e34 e5 =
     each_row (λ k. number_at k (record { first = first; second = second; last = last }) ≡ d22 ‼ k) (ap (side 0) e12) (ap (side 1) e12) (ap (side 0) e34) (ap (side 1) e34) e5

@@ -9,17 +9,19 @@ use mathlib.Core.List.{List}
 use Rattle.mlsa.specs.declared.MelLogSpectrumApproximation.{MelLogSpectrumApproximation}
 use Rattle.mlsa.specs.Mlsa.{Part, downward, passed, df1_of, df2_of, filter, df_of}
 
-module _ (one : ℕ → Part → Part) (turn : ℕ) (p : Part) where
-  pub down_turn : turn < 6 → downward one (6 - (turn + 1)) (one (6 - turn) p) ≡ downward one (6 - turn) p
+module _ (one : ℕ → Part → Part) (i : ℕ) (p : Part) where
+  -- row i - 1 is next, and none is where i is 1
+  pub down_turn : 1 < i → downward one (i - 1 - 1) (one (i - 1) p) ≡ downward one (i - 1) p
   unfolding downward
   down_turn h =
-      let left : 6 - turn ≡ suc (6 - (turn + 1)) = omega arith in
-      rw left refl
+      let below : i - 1 - 1 ≡ i - 2 = omega arith in
+      let left : i - 1 ≡ suc (i - 2) = omega arith in
+      rw (below, left) refl
 
-  pub down_end : 6 ≤ turn → downward one (6 - turn) p ≡ p
+  pub down_end : i ≤ 1 → downward one (i - 1) p ≡ p
   unfolding downward
   down_end h =
-      let none : 6 - turn ≡ 0 = omega arith in
+      let none : i - 1 ≡ 0 = omega arith in
       rw none refl
 
 -- one of m rows of n lies within them

@@ -2,7 +2,7 @@
 use Rattle.std.specs.Prelude.{◌≡◌, refl, List, [], ◌∷◌, ◌++◌, ℕ, ◌*◌, drop, set, replicate, Float}
 use Rattle.std.specs.Float.Ieee.{of_bits, add, mul, neg}
 use Rattle.number.specs.F64.{0f, ½f, 1f, 2f}
-use Rattle.lanes.specs.declared.five.Numbers.{Numbers}
+use Rattle.lanes.specs.declared.five.Five.{Five}
 use Rattle.lanes.specs.Lane.{lane}
 use Rattle.mlsa.specs.declared.Sums.{Sums}
 use Rattle.mlsa.specs.Mlsa.{Part, part, weighed}
@@ -26,7 +26,7 @@ unfolding flat lane
 laid_example = refl
 
 -- a part with the answers of rows 5 to 1, weighed
-abbrev pub answered : Numbers → Part → Part
+abbrev pub answered : Five Float → Part → Part
 answered y p =
     part p.d1 (set (set (set (set (set p.d2 5 y.last) 4 y.second.b) 3 y.second.a) 2 y.first.b) 1 y.first.a)
     (weighed 1 y.first.a (weighed 2 y.first.b (weighed 3 y.second.a (weighed 4 y.second.b (weighed 5 y.last p.sums)))))
@@ -35,7 +35,7 @@ answered y p =
 abbrev none : Sums
 none = record { x = 0f; out = 0f }
 
-abbrev twice : Numbers
+abbrev twice : Five Float
 twice = record { first = record { a = 2f; b = 0f }; second = record { a = 0f; b = 0f }; last = 0f }
 
 pub answers_stand : (answered twice (part [] (replicate 6 1f) none)).d2 ≡ 1f ∷ 2f ∷ 0f ∷ 0f ∷ 0f ∷ 0f ∷ []

@@ -21,10 +21,8 @@ fn lay_pair(pair: &mut [f64], d21: &[f64], n: usize, from: usize)
     requires { (2 * n ≤ length pair.old) × (from + 2 * n ≤ length d21.now) }
     ensures { (k : ℕ) → k < 2 → lane k n pair.new ≡ take n (drop (from + k * n) d21.now) }
 {
-    let mut i = 0;
-    while i < n {
+    for i in 0..n {
         lay_tap(pair, d21, n, from, i);
-        i += 1;
     }
 }
 
@@ -42,10 +40,8 @@ fn lane_back(out: &mut [f64], pair: &[f64], k: usize)
     requires { (k < 2) × (2 * length out.old ≤ length pair.now) }
     ensures { out.new ≡ lane k (length out.old) pair.now }
 {
-    let mut i = 0;
-    while i < out.len() {
+    for i in 0..out.len() {
         out[i] = pair[2 * i + k];
-        i += 1;
     }
 }
 

@@ -7,7 +7,7 @@ ghost use Rattle.mlsa.specs.Mlsa.{part, weighed, first_row, passed, ended, df1_o
 ghost use Rattle.mlsa.specs.Laid.{flat, answered};
 
 use lanes::five;
-use lanes::five::Numbers;
+use lanes::five::Five;
 
 pub mod layout;
 
@@ -58,16 +58,10 @@ fn weigh(i: usize, y: f64, s: Sums) -> Sums
     ensures { result ≡ weighed i y s }
 {
     let v = y * MelLogSpectrumApproximation::PPADE[i];
-    if i % 2 == 1 {
-        Sums {
-            x: s.x + v,
-            out: s.out + v,
-        }
-    } else {
-        Sums {
-            x: s.x + -v,
-            out: s.out + v,
-        }
+    let turned = if i % 2 == 1 { v } else { -v };
+    Sums {
+        x: s.x + turned,
+        out: s.out + v,
     }
 }
 
@@ -89,18 +83,15 @@ fn df1(d11: &mut [f64], d12: &mut [f64], x: f64, alpha: f64, c: &[f64]) -> f64
     ensures { passed d11.new d12.new result ≡ df1_of alpha c.now d11.old d12.old x }
 {
     let mut s = Sums { x, out: 0.0 };
-    let mut turn = 1;
-    while turn < 6 {
-        let i = 6 - turn;
+    for i in (1..6).rev() {
         s = first_row(d11, d12, i, s, alpha, c);
-        turn += 1;
     }
     d12[0] = s.x;
     s.x + s.out
 }
 
 // The answers of rows 5 to 1, weighed in this order, and the sample that the second part passes on.
-fn answer(d22: &mut [f64], y: Numbers, x: f64) -> f64
+fn answer(d22: &mut [f64], y: Five<f64>, x: f64) -> f64
     requires { length d22.old ≡ 6 }
     ensures { (l : List Float) → passed l d22.new result ≡ ended (answered y (part l d22.old (record { x = x; out = 0f }))) }
 {
@@ -135,7 +126,7 @@ fn df2_laid(
     ensures { passed (flat (length c.now) first.new second.new d21.new) d22.new result
         ≡ df2_of alpha c.now (flat (length c.now) first.old second.old d21.old) d22.old x }
 {
-    let heads = Numbers {
+    let heads = Five {
         first: lanes::at(d22, 0),
         second: lanes::at(d22, 1),
         last: d22[4],

@@ -3,11 +3,11 @@ use mathlib.Core.Path.{refl}
 use borrow.Author.Tests.{eq-eqb, ne_eqb}
 use Rattle.mlsa.specs.Mlsa.{weighed}
 use Rattle.mlsa.proofs.weigh.Goals as goal
+use Rattle.mlsa.proofs.weigh.Goals.{then-i-eq1, else-i-eq1}
 
-pub returns-then-i-eq1 : goal.returns-then-i-eq1
+pub returns : goal.returns
 unfolding weighed
-returns-then-i-eq1 c = rw (eq-eqb _ _ c.if-i-eq1.true) refl
-
-pub returns-else-i-eq1 : goal.returns-else-i-eq1
-unfolding weighed
-returns-else-i-eq1 c = rw (ne_eqb _ _ c.if-i-eq1.false) refl
+returns c = elim c.if-i-eq1.branch [
+  then-i-eq1 w ↦ rw (w.turned-is, eq-eqb _ _ w.if-i-eq1.true) refl
+  | else-i-eq1 w ↦ rw (w.turned-is, ne_eqb _ _ w.if-i-eq1.false) refl
+]

@@ -10,13 +10,13 @@ use Rattle.mlsa.proofs.LayoutLaws.{lay_turn, lay_end}
 use Rattle.mlsa.proofs.layout.lay_pair.Goals as goal
 
 pub loop-i-init : goal.loop-i-init
-loop-i-init c = (omega arith, refl, λ k h. refl)
+loop-i-init c k h = refl
 
 pub loop-i-preserved : goal.loop-i-preserved
-loop-i-preserved c =
+loop-i-preserved c k h =
     let fits : c.args.from + 2 * c.args.n ≤ length c.args.d21.now = c.requires.1 in
-    (omega arith, omega arith, λ k h. lay_turn c.args.n c.loop-i.i (c.args.from + k * c.args.n) (lane k c.args.n c.loop-i.pair) _ c.args.d21.now (length_lane k c.args.n c.loop-i.pair) (omega arith) (rows_from 2 k c.args.n c.args.from (length c.args.d21.now) h fits) (c.loop-i.invariant.2 k h) (c.lay_tap.ensures k h))
+    lay_turn c.args.n c.loop-i.i (c.args.from + k * c.args.n) (lane k c.args.n c.loop-i.pair) _ c.args.d21.now (length_lane k c.args.n c.loop-i.pair) (omega arith) (rows_from 2 k c.args.n c.args.from (length c.args.d21.now) h fits) (c.loop-i.invariant k h) (c.lay_tap.ensures k h)
 
 pub returns : goal.returns
 returns c k h =
-    lay_end k c.args.n c.loop-i.i (c.args.from + k * c.args.n) c.loop-i.pair c.args.d21.now (omega arith) (c.loop-i.invariant.2 k h)
+    lay_end k c.args.n c.loop-i.i (c.args.from + k * c.args.n) c.loop-i.pair c.args.d21.now (omega arith) (c.loop-i.invariant k h)
