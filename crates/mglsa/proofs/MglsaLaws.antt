@@ -1,7 +1,7 @@
 -- The taps and the stages that are left, a turn on. Assumes nothing.
 use mathlib.Core.Path.{◌≡◌, refl, ap, ◌∙◌}
 use mathlib.Core.List.{List, [], ◌∷◌}
-use Prim.Native.Nat.{ℕ, zero, suc, ◌+◌, ◌-◌, ◌*◌, ◌≤◌, ◌<◌}
+use Prim.Native.Nat.{ℕ, zero, suc, ◌+◌, ◌-◌, ◌*◌, ◌/◌, ◌≤◌, ◌<◌}
 use native.Mathlib.Nat.{mul-le-mul_right, suc-mul}
 use native.Mathlib.Omega.{arith}
 use lib.Ieee.{Float}
@@ -29,19 +29,20 @@ module _ (alpha : Float) (c : List Float) (n i : ℕ) (s : Passed) where
       let left : n - i ≡ suc (n - (i + 1)) = omega arith in
       rw left refl
 
-  -- two at once
-  pub stages_turn : i + 2 ≤ n → stages_from alpha c (n - (i + 2)) (i + 2) (stage_of alpha c (i + 1) (stage_of alpha c i s)) ≡ stages_from alpha c (n - i) i s
-  unfolding stages_from
-  stages_turn h =
-      let left : n - i ≡ suc (suc (n - (i + 2))) = omega arith in
-      let on : i + 1 + 1 ≡ i + 2 = omega arith in
-      rw (left, ← on) refl
-
   pub stage_end : n ≤ i → stages_from alpha c (n - i) i s ≡ s
   unfolding stages_from
   stage_end h =
       let none : n - i ≡ 0 = omega arith in
       rw none refl
+
+-- two at once
+pub stages_turn : (alpha : Float) (c : List Float) (n i : ℕ) (s : Passed) → i < n / 2
+    → stages_from alpha c (n - 2 * (i + 1)) (2 * (i + 1)) (stage_of alpha c (2 * i + 1) (stage_of alpha c (2 * i) s)) ≡ stages_from alpha c (n - 2 * i) (2 * i) s
+unfolding stages_from
+stages_turn alpha c n i s h =
+    let left : n - 2 * i ≡ suc (suc (n - 2 * (i + 1))) = omega arith in
+    let on : 2 * (i + 1) ≡ 2 * i + 1 + 1 = omega arith in
+    rw (left, on) refl
 
 -- a row of n that is not past the last of `rows`
 pub row_within : (i n rows l : ℕ) → i < rows → rows * n ≤ l → i * n + n ≤ l

@@ -11,49 +11,45 @@ use lib.Seq.{take-append-add, length-take-le, take-take, drop-drop, take_at, dro
 use Rattle.number.specs.F64.{◌⊕◌, ◌⊖◌, ◌⊗◌, 1f, ◌‼◌}
 use Rattle.number.specs.Lists.{row, put_row}
 use Rattle.number.proofs.Lists.{length_row, later_row, put_row_rest}
+use Rattle.mglsa.specs.declared.pair.Row.{Row}
 use Rattle.mglsa.specs.declared.pair.Both.{Both}
 use Rattle.mglsa.specs.Mglsa.{Passed, passed, warps, warped, dff_of, stage_of}
-use Rattle.mglsa.specs.Pair.{standing, Warped, both_of}
-use Rattle.mglsa.proofs.MglsaLaws.{length_stage}
-use Rattle.mglsa.proofs.StandingLaws.{standing_start, row_warped, row_before, stage_made}
+use Rattle.mglsa.specs.Pair.{standing, started, carried, WarpedRow, Warped, both_of}
+use Rattle.mglsa.proofs.MglsaLaws.{warp_turn, warp_end, length_stage}
+use Rattle.mglsa.proofs.StandingLaws.{standing_start, row_warped, stage_made}
 
 -- ---- a tap of each row
 
 module _ (alpha : Float) (c d : List Float) (i n : ℕ) (s : Both) where
-  abbrev tap : Float
-  tap = s.here ⊕ alpha ⊗ (d ‼ (i + 1) ⊖ s.before)
+  abbrev first : Row
+  first = carried (d ‼ (i + 1)) alpha (c ‼ (i + 1)) s.first
 
-  abbrev tap2 : Float
-  tap2 = s.here2 ⊕ alpha ⊗ (d ‼ (n + i + 1) ⊖ s.before2)
+  abbrev second : Row
+  second = carried (d ‼ (n + i + 1)) alpha (c ‼ (i + 1)) s.second
 
   abbrev after : List Float
-  after = set (set d (i + 1) tap) (n + i + 1) tap2
-
-  abbrev carried : Both
-  carried = record { before = tap; here = d ‼ (i + 1); sum = s.sum ⊕ tap ⊗ c ‼ (i + 1); before2 = tap2; here2 = d ‼ (n + i + 1); sum2 = s.sum2 ⊕ tap2 ⊗ c ‼ (i + 1) }
+  after = set (set d (i + 1) first.before) (n + i + 1) second.before
 
   module _ (some : 1 ≤ i) (most : i + 1 < n) (long : n + n ≤ length d)
-      (b : s.before ≡ standing i s.here (take n d) ‼ (i - 1)) (b2 : s.before2 ≡ standing i s.here2 (drop n d) ‼ (i - 1)) where
-    first_half : take n after ≡ set (take n d) (i + 1) tap
-    first_half = take-set-le n (set d (i + 1) tap) (n + i + 1) tap2 (omega arith) ∙ take-set-lt n d (i + 1) tap (omega arith)
+      (b : s.first.before ≡ standing i s.first.here (take n d) ‼ (i - 1)) (b2 : s.second.before ≡ standing i s.second.here (drop n d) ‼ (i - 1)) where
+    first_half : take n after ≡ set (take n d) (i + 1) first.before
+    first_half = take-set-le n (set d (i + 1) first.before) (n + i + 1) second.before (omega arith) ∙ take-set-lt n d (i + 1) first.before (omega arith)
 
     on : n + i + 1 ≡ n + (i + 1)
     on = omega arith
 
-    second_half : drop n after ≡ set (drop n d) (i + 1) tap2
-    second_half = ap (λ (k : ℕ). drop n (set (set d (i + 1) tap) k tap2)) on ∙ drop-set-add n (set d (i + 1) tap) (i + 1) tap2 ∙ ap (λ (l : List Float). set l (i + 1) tap2) (drop-set-lt n d (i + 1) tap (omega arith))
+    second_half : drop n after ≡ set (drop n d) (i + 1) second.before
+    second_half = ap (λ (k : ℕ). drop n (set (set d (i + 1) first.before) k second.before)) on ∙ drop-set-add n (set d (i + 1) first.before) (i + 1) second.before ∙ ap (λ (l : List Float). set l (i + 1) second.before) (drop-set-lt n d (i + 1) first.before (omega arith))
 
-    pub warped_both : Warped alpha c i n s d carried after
+    pub warped_both : Warped alpha c i n s d (record { first = first; second = second }) after
     warped_both =
         let fits : i + 1 < length (take n d) = rw (length-take-le n d (omega arith)) most in
         let fits2 : i + 1 < length (drop n d) = rw length-drop (omega arith) in
         let next : d ‼ (i + 1) ≡ take n d ‼ (i + 1) = sym (get_or-take n d (i + 1) nan (omega arith)) in
         let next2 : d ‼ (n + i + 1) ≡ drop n d ‼ (i + 1) = ap (λ (k : ℕ). d ‼ k) on ∙ sym (get_or-drop n d (i + 1) nan) in
         record {
-          first = row_warped alpha c (take n d) (take n after) i s.sum s.before s.here _ some fits b next first_half;
-          second = row_warped alpha c (drop n d) (drop n after) i s.sum2 s.before2 s.here2 _ some fits2 b2 next2 second_half;
-          before = row_before alpha c (take n d) (take n after) i s.sum s.before s.here _ some fits b next first_half;
-          before2 = row_before alpha c (drop n d) (drop n after) i s.sum2 s.before2 s.here2 _ some fits2 b2 next2 second_half;
+          first = row_warped alpha c (take n d) (take n after) i s.first _ some fits b next first_half;
+          second = row_warped alpha c (drop n d) (drop n after) i s.second _ some fits2 b2 next2 second_half;
         }
 
 -- ---- all taps of a row
@@ -62,6 +58,33 @@ module _ (alpha : Float) (c d : List Float) (i n : ℕ) (s : Both) where
 pub warped_start : (alpha : Float) (c l : List Float) (n : ℕ) (y : Float) → length l ≡ n → y ≡ l ‼ 0 ⊗ c ‼ 1 → warps alpha c (n - 2) 1 (passed l y) ≡ warped alpha c l
 unfolding warped
 warped_start alpha c l n y e p = rw (e, p) refl
+
+-- a row l at tap i: the taps that are left make of it what all of them make of l, and the tap before is carried
+pub record OnRow (alpha : Float) (c : List Float) (i : ℕ) (l now : List Float) (s : Row) : Type 0 where
+  pub taps : warps alpha c (length c - 1 - i) i (passed (standing i s.here now) s.sum) ≡ warped alpha c l
+  pub before : s.before ≡ standing i s.here now ‼ (i - 1)
+
+module _ (alpha : Float) (c l : List Float) where
+  pub row_started : (s : Row) → 2 ≤ length c → length l ≡ length c → s ≡ started l 0 (c ‼ 1) → OnRow alpha c 1 l l s
+  row_started s some e made =
+      let as_is : standing 1 s.here l ≡ l = standing_start l s.here (omega arith) (ap (λ (r : Row). r.here) made) in
+      let all : length c - 1 - 1 ≡ length c - 2 = omega arith in
+      record {
+        taps = rw (all, as_is) (warped_start alpha c l (length c) s.sum e (ap (λ (r : Row). r.sum) made));
+        before = ap (λ (r : Row). r.before) made ∙ sym (ap (λ (t : List Float). t ‼ 0) as_is);
+      }
+
+  pub row_on : (i : ℕ) (now after : List Float) (s next : Row) → i < length c - 1 → OnRow alpha c i l now s → WarpedRow alpha c i s now next after → OnRow alpha c (i + 1) l after next
+  row_on i now after s next h o w =
+      let back : i + 1 - 1 ≡ i = omega arith in
+      record {
+        taps = ap (warps alpha c (length c - 1 - (i + 1)) (i + 1)) w.tap ∙ warp_turn alpha c (length c - 1) i _ h ∙ o.taps;
+        before = rw back w.before;
+      }
+
+  pub row_done : (i : ℕ) (now : List Float) (s : Row) → i ≡ length c - 1 → OnRow alpha c i l now s → passed (standing (length c - 1) s.here now) s.sum ≡ warped alpha c l
+  row_done i now s e o =
+      ap (λ (k : ℕ). passed (standing k s.here now) s.sum) (sym e) ∙ sym (warp_end alpha c (length c - 1) i _ (omega arith)) ∙ o.taps
 
 -- the rows of a list of n + n
 module _ (d : List Float) (n : ℕ) (some : 2 ≤ n) (e : length d ≡ n + n) where
@@ -77,12 +100,12 @@ module _ (d : List Float) (n : ℕ) (some : 2 ≤ n) (e : length d ≡ n + n) wh
   pub second_tap : drop n d ‼ 0 ≡ d ‼ n
   second_tap = get_or-drop n d 0 nan ∙ rw add-zero refl
 
-  -- before the loop each stands as it is
-  pub first_start : (here : Float) → here ≡ d ‼ 1 → standing 1 here (take n d) ≡ take n d
-  first_start here h = standing_start (take n d) here (omega (arith, first_length)) (h ∙ sym (get_or-take n d 1 nan some))
+  -- each begins as the list has it
+  pub first_started : (factor : Float) → started d 0 factor ≡ started (take n d) 0 factor
+  first_started factor = rw (first_tap, get_or-take n d 1 nan some) refl
 
-  pub second_start : (here : Float) → here ≡ d ‼ (n + 1) → standing 1 here (drop n d) ≡ drop n d
-  second_start here h = standing_start (drop n d) here (omega (arith, second_length)) (h ∙ sym (get_or-drop n d 1 nan))
+  pub second_started : (factor : Float) → started d n factor ≡ started (drop n d) 0 factor
+  second_started factor = rw (second_tap, get_or-drop n d 1 nan) refl
 
 -- ---- both stages
 
@@ -100,10 +123,10 @@ module _ (alpha : Float) (c d taps : List Float) (s : Both) (x : Float) where
   size = length c
 
   abbrev out : Float
-  out = x ⊖ s.sum
+  out = x ⊖ s.first.sum
 
   abbrev out2 : Float
-  out2 = out ⊖ s.sum2
+  out2 = out ⊖ s.second.sum
 
   -- what goes in at the front of either row
   abbrev in1 : Float
@@ -133,13 +156,13 @@ module _ (alpha : Float) (c d taps : List Float) (s : Both) (x : Float) where
         ∙ ap (λ (l : List Float). set l 0 in2) (drop-set-lt size moved 0 in1 (omega arith) ∙ drop-set-add size (set taps 1 (taps ‼ 0)) 1 (taps ‼ size)
         ∙ ap (λ (l : List Float). set l 1 (taps ‼ size)) (drop-set-lt size taps 1 (taps ‼ 0) (omega arith))))
 
-    pub both_made : passed (standing (size - 1) s.here (take size taps)) s.sum ≡ warped alpha c (take size d)
-        → passed (standing (size - 1) s.here2 (drop size taps)) s.sum2 ≡ warped alpha c (drop size d)
+    pub both_made : passed (standing (size - 1) s.first.here (take size taps)) s.first.sum ≡ warped alpha c (take size d)
+        → passed (standing (size - 1) s.second.here (drop size taps)) s.second.sum ≡ warped alpha c (drop size d)
         → passed stored out2 ≡ both_of alpha c (passed d x)
     both_made first second =
-        both_of_lem alpha c d (take size stored) (drop size stored) stored x s.sum s.sum2
-        (stage_made alpha c (take size d) (take size taps) (take size stored) size s.here x s.sum some (first_length taps size some e) first first_stored)
-        (stage_made alpha c (drop size d) (drop size taps) (drop size stored) size s.here2 out s.sum2 some (second_length taps size some e) second second_stored)
+        both_of_lem alpha c d (take size stored) (drop size stored) stored x s.first.sum s.second.sum
+        (stage_made alpha c (take size d) (take size taps) (take size stored) size s.first.here x s.first.sum some (first_length taps size some e) first first_stored)
+        (stage_made alpha c (drop size d) (drop size taps) (drop size stored) size s.second.here out s.second.sum some (second_length taps size some e) second second_stored)
         (sym (take-append-drop size stored))
 
 -- ---- where the rows lie

@@ -10,7 +10,8 @@ use lib.Seq.{take-suc-set, take-set-le, drop-set-lt, drop-append-le, take_all, l
 use Rattle.number.specs.F64.{◌⊕◌, ◌⊖◌, ◌⊗◌, 1f, ◌‼◌}
 use Rattle.number.proofs.Lists.{left_next, left_none}
 use Rattle.mglsa.specs.Mglsa.{passed, warp_at, warped, pushed, dff_of}
-use Rattle.mglsa.specs.Pair.{standing}
+use Rattle.mglsa.specs.declared.pair.Row.{Row}
+use Rattle.mglsa.specs.Pair.{standing, carried, WarpedRow}
 use Rattle.mglsa.proofs.MglsaLaws.{dff_of_lem}
 
 -- ---- at tap i
@@ -47,20 +48,20 @@ module _ (d : List Float) (i : ℕ) (some : 1 ≤ i) (most : i + 1 ≤ length d)
 
 -- ---- a turn of one row
 
-module _ (alpha : Float) (c d after : List Float) (i : ℕ) (sum before here next : Float) (some : 1 ≤ i) (most : i + 1 < length d) where
-  abbrev tap : Float
-  tap = here ⊕ alpha ⊗ (next ⊖ before)
+module _ (alpha : Float) (c d after : List Float) (i : ℕ) (s : Row) (next : Float) (some : 1 ≤ i) (most : i + 1 < length d) where
+  abbrev r : Row
+  r = carried next alpha (c ‼ (i + 1)) s
 
-  module _ (b : before ≡ standing i here d ‼ (i - 1)) (n : next ≡ d ‼ (i + 1)) (e : after ≡ set d (i + 1) tap) where
-    moved : standing (i + 1) next after ≡ standing i tap d
+  module _ (b : s.before ≡ standing i s.here d ‼ (i - 1)) (n : next ≡ d ‼ (i + 1)) (e : after ≡ set d (i + 1) r.before) where
+    moved : standing (i + 1) next after ≡ standing i r.before d
     moved = rw (e, n) (standing_turn d i some (omega arith) _ most)
 
-    pub row_warped : passed (standing (i + 1) next after) (sum ⊕ tap ⊗ c ‼ (i + 1)) ≡ warp_at alpha c i (passed (standing i here d) sum)
+    tap_warped : passed (standing (i + 1) next after) r.sum ≡ warp_at alpha c i (passed (standing i s.here d) s.sum)
     unfolding warp_at
-    row_warped = rw (moved, standing_here d i some (omega arith) here, standing_next d i some (omega arith) here most, ← n, ← b, standing_set d i some (omega arith) here tap) refl
+    tap_warped = rw (moved, standing_here d i some (omega arith) s.here, standing_next d i some (omega arith) s.here most, ← n, ← b, standing_set d i some (omega arith) s.here r.before) refl
 
-    pub row_before : tap ≡ standing (i + 1) next after ‼ i
-    row_before = rw moved (sym (standing_here d i some (omega arith) tap))
+    pub row_warped : WarpedRow alpha c i s d r after
+    row_warped = record { tap = tap_warped; before = rw moved (sym (standing_here d i some (omega arith) r.before)) }
 
 -- ---- the start and the end of a row
 

@@ -2,7 +2,8 @@
 use Rattle.std.specs.Prelude.{◌≡◌, refl, false, List, [], ◌∷◌, ◌++◌, ℕ, ◌+◌, length, take, drop, pos, negsuc, Float}
 use Rattle.std.specs.Float.{fin}
 use Rattle.std.specs.Float.Ieee.{of_bits, add, sub, mul}
-use Rattle.number.specs.F64.{½f, 0f, 1f, 2f, ◌‼◌}
+use Rattle.number.specs.F64.{◌⊕◌, ◌⊖◌, ◌⊗◌, ½f, 0f, 1f, 2f, ◌‼◌}
+use Rattle.mglsa.specs.declared.pair.Row.{Row}
 use Rattle.mglsa.specs.declared.pair.Both.{Both}
 use Rattle.mglsa.specs.Mglsa.{Passed, passed, warp_at, warps, warped, pushed, dff_of}
 
@@ -16,12 +17,25 @@ pub one_moved : standing 2 ½f (0f ∷ 1f ∷ 2f ∷ 1f ∷ []) ≡ 0f ∷ 2f �
 unfolding standing
 one_moved = refl
 
--- tap i of each row as `warp_at` has it, and the tap that is carried on
+-- the first two taps of the row at `from`, and the product of the first
+abbrev pub started : List Float → ℕ → Float → Row
+started d from factor = record { before = d ‼ from; here = d ‼ (from + 1); sum = d ‼ from ⊗ factor }
+
+-- the tap that is carried, between its neighbours, and the sum with it
+abbrev pub carried : (next alpha factor : Float) → Row → Row
+carried next alpha factor s =
+    let tap = s.here ⊕ alpha ⊗ (next ⊖ s.before) in
+    record { before = tap; here = next; sum = s.sum ⊕ tap ⊗ factor }
+
+-- tap i of a row as `warp_at` has it, and the tap that is carried on
+pub record WarpedRow (alpha : Float) (c : List Float) (i : ℕ) (s : Row) (d : List Float) (r : Row) (after : List Float) : Type 0 where
+  pub tap : passed (standing (i + 1) r.here after) r.sum ≡ warp_at alpha c i (passed (standing i s.here d) s.sum)
+  pub before : r.before ≡ standing (i + 1) r.here after ‼ i
+
+-- the same of each row
 pub record Warped (alpha : Float) (c : List Float) (i n : ℕ) (s : Both) (d : List Float) (r : Both) (after : List Float) : Type 0 where
-  pub first : passed (standing (i + 1) r.here (take n after)) r.sum ≡ warp_at alpha c i (passed (standing i s.here (take n d)) s.sum)
-  pub second : passed (standing (i + 1) r.here2 (drop n after)) r.sum2 ≡ warp_at alpha c i (passed (standing i s.here2 (drop n d)) s.sum2)
-  pub before : r.before ≡ standing (i + 1) r.here (take n after) ‼ i
-  pub before2 : r.before2 ≡ standing (i + 1) r.here2 (drop n after) ‼ i
+  pub first : WarpedRow alpha c i s.first (take n d) r.first (take n after)
+  pub second : WarpedRow alpha c i s.second (drop n d) r.second (drop n after)
 
 -- one stage on the first row, then one on the second
 unfoldable pub both_of : Float → List Float → Passed → Passed

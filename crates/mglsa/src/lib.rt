@@ -41,10 +41,8 @@ fn warp(d: &mut [f64], alpha: f64, c: &[f64]) -> f64
     ensures { passed d.new result ≡ warped alpha c.now d.old }
 {
     let mut y = d[0] * c[1];
-    let mut i = 1;
-    while i < d.len() - 1 {
+    for i in 1..d.len() - 1 {
         y = warp_at(d, alpha, c, i, y);
-        i += 1;
     }
     y
 }
@@ -54,12 +52,10 @@ fn push(d: &mut [f64], first: f64)
     ensures { d.new ≡ pushed first d.old }
 {
     let mut before = first;
-    let mut i = 0;
-    while i < d.len() {
-        let here = d[i];
-        d[i] = before;
+    for tap in d.iter_mut() {
+        let here = *tap;
+        *tap = before;
         before = here;
-        i += 1;
     }
 }
 
@@ -91,13 +87,11 @@ pub fn df(d: &mut [f64], stages: usize, x: f64, alpha: f64, c: &[f64]) -> f64
     ensures { turned (passed d.new result) ≡ df_of alpha stages c.now d.old x }
 {
     let mut out = x;
-    let mut i = 0;
-    while 2 <= stages - i {
-        out = two_stages(d, i, out, alpha, c);
-        i += 2;
+    for two in 0..stages / 2 {
+        out = two_stages(d, 2 * two, out, alpha, c);
     }
-    if i < stages {
-        return stage(d, i, out, alpha, c);
+    if stages % 2 == 1 {
+        return stage(d, stages - 1, out, alpha, c);
     }
     out
 }

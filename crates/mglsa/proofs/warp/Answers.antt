@@ -10,14 +10,14 @@ use Rattle.mglsa.proofs.warp.Goals as goal
 pub loop-i-init : goal.loop-i-init
 loop-i-init c =
     let all : length c.args.d.now - 1 - 1 ≡ length c.args.d.now - 2 = omega arith in
-    (omega arith, omega arith, refl, rw all refl)
+    rw all refl
 
 pub loop-i-preserved : goal.loop-i-preserved
 loop-i-preserved c =
     let n = length c.args.d.now - 1 in
-    (omega arith, omega arith, omega arith, ap (warps _ _ (n - (c.loop-i.i + 1)) (c.loop-i.i + 1)) c.warp_at-y.ensures ∙ warp_turn _ _ n c.loop-i.i _ (omega arith) ∙ c.loop-i.invariant.3)
+    ap (warps _ _ (n - (c.loop-i.i + 1)) (c.loop-i.i + 1)) c.warp_at-y.ensures ∙ warp_turn _ _ n c.loop-i.i _ (omega arith) ∙ c.loop-i.invariant
 
 pub returns : goal.returns
 unfolding warped
 returns c =
-    sym (warp_end _ _ (length c.args.d.now - 1) c.loop-i.i _ (omega arith)) ∙ c.loop-i.invariant.3
+    sym (warp_end _ _ (length c.args.d.now - 1) c.loop-i.i _ (omega arith)) ∙ c.loop-i.invariant
