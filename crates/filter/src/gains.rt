@@ -20,13 +20,11 @@ fn prepare(rests: &mut [f64], powers: &mut [f64], n: usize, start: f64, incremen
     ensures { (result ≡ on_by increment start n) × Prepared increment start n rests.new powers.new }
 {
     let mut c0 = start;
-    let mut i = 0;
-    while i < n {
+    for i in 0..n {
         let p = exponential::split(c0);
         rests[i] = p.rest;
         powers[i] = p.power;
         c0 = c0 + increment;
-        i += 1;
     }
     c0
 }
@@ -37,12 +35,10 @@ fn multiply(samples: &mut [f64], rests: &[f64], powers: &[f64])
     ensures { (increment start : Float) → Prepared increment start (length samples.old) rests.now powers.now
         → passage samples.new (on_by increment start (length samples.old)) ≡ through (gain_of increment) start samples.old }
 {
-    let mut i = 0;
-    while i < samples.len() {
+    for i in 0..samples.len() {
         let x = samples[i];
         let loud = gain(x, rests[i], powers[i]);
         samples[i] = loud;
-        i += 1;
     }
 }
 
@@ -63,11 +59,8 @@ pub(crate) fn gains(samples: &mut [f64], start: f64, increment: f64)
     ensures { samples.new ≡ (through (gain_of increment) start samples.old).made }
 {
     let mut c0 = start;
-    let mut i = 0;
-    while i < samples.len() {
-        let left = samples.len() - i;
-        let n = if left < 128 { left } else { 128 };
+    for i in (0..samples.len()).step_by(128) {
+        let n = (samples.len() - i).min(128);
         c0 = block(&mut samples[i..i + n], c0, increment);
-        i += n;
     }
 }

@@ -54,14 +54,11 @@ fn samples_in(
         ≡ through (filtered_of alpha volume increments.now)
         (state c.old (filter d11.old d12.old (flat (length c.old) first.old second.old d21.old) d22.old)) samples.old }
 {
-    let mut i = 0;
-    while i < samples.len() {
-        let x = samples[i];
+    for x in samples.iter_mut() {
         let y = sample(
-            x, c, increments, alpha, volume, d11, d12, first, second, d21, d22,
+            *x, c, increments, alpha, volume, d11, d12, first, second, d21, d22,
         );
-        samples[i] = y;
-        i += 1;
+        *x = y;
     }
 }
 

@@ -40,12 +40,9 @@ pub fn stretch_in(
     ensures { passage samples.new (state c.new d.new)
         ≡ through (sample_of alpha stages volume increments.now) (state c.old d.old) samples.old }
 {
-    let mut i = 0;
-    while i < samples.len() {
-        let x = samples[i];
-        let y = sample(x, c, increments, alpha, volume, stages, d);
-        samples[i] = y;
-        i += 1;
+    for x in samples.iter_mut() {
+        let y = sample(*x, c, increments, alpha, volume, stages, d);
+        *x = y;
     }
 }
 

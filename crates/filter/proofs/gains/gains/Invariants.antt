@@ -9,7 +9,7 @@ use Rattle.filter.proofs.gains.gains.Given as goal
 
 abbrev pub invariant-loop-i : goal.invariant-loop-i
 invariant-loop-i l =
-    (l.i ≤ length l.samples) × (length l.samples ≡ length l.initial.samples) × (from_here (gain_of l.increment) l.i l.c0 l.samples ≡ through (gain_of l.increment) l.start l.initial.samples)
+    from_here (gain_of l.increment) l.i l.c0 l.samples ≡ through (gain_of l.increment) l.start l.initial.samples
 
 abbrev pub decreases-loop-i : goal.decreases-loop-i
 decreases-loop-i l = length l.samples - l.i

@@ -1,6 +1,5 @@
 -- `multiply` meets its contract: the samples that are left, from c0 here on, come to what all of them come to from the start. Assumes nothing.
 use mathlib.Core.Path.{◌≡◌}
-use Prim.Native.Nat.{◌-◌, ◌≤◌}
 use lib.ListN.{length}
 use lib.Ieee.{Float}
 use Rattle.history.specs.Through.{through}
@@ -10,9 +9,5 @@ use Rattle.filter.proofs.gains.multiply.Given as goal
 
 abbrev pub invariant-loop-i : goal.invariant-loop-i
 invariant-loop-i l =
-    (l.i ≤ length l.samples) × (length l.samples ≡ length l.initial.samples)
-    × ((increment start : Float) → Prepared increment start (length l.initial.samples) l.rests l.powers
-    → from_here (gain_of increment) l.i (on_by increment start l.i) l.samples ≡ through (gain_of increment) start l.initial.samples)
-
-abbrev pub decreases-loop-i : goal.decreases-loop-i
-decreases-loop-i l = length l.samples - l.i
+    (increment start : Float) → Prepared increment start (length l.initial.samples) l.rests l.powers
+    → from_here (gain_of increment) l.i (on_by increment start l.i) l.samples ≡ through (gain_of increment) start l.initial.samples

@@ -2,7 +2,6 @@
 use mathlib.Core.Path.{◌≡◌, refl, sym, ap, ◌∙◌, subst}
 use Prim.Native.Nat.{ℕ}
 use native.Mathlib.Omega.{arith}
-use lib.ListN.{length-set}
 use lib.Ieee.{Float}
 use Rattle.number.specs.F64.{◌⊕◌}
 use Rattle.filter.specs.Zero.{on_by, Prepared}
@@ -11,14 +10,14 @@ use Rattle.filter.proofs.gains.prepare.Goals as goal
 
 pub loop-i-init : goal.loop-i-init
 unfolding on_by
-loop-i-init c = (omega arith, refl, refl, refl, λ i h. absurd (omega arith))
+loop-i-init c = (refl, λ i h. absurd (omega arith))
 
 pub loop-i-preserved : goal.loop-i-preserved
 loop-i-preserved c =
-    let more = prepared_more c.args.increment c.args.start c.loop-i.i c.loop-i.rests c.loop-i.powers c.loop-i.c0 c.split-p.result.rest c.split-p.result.power (omega arith) (omega arith) c.loop-i.invariant.3 c.split-p.ensures c.loop-i.invariant.4 in
-    (omega arith, simp length-set (omega arith), simp length-set (omega arith), ap (λ (c0 : Float). c0 ⊕ c.args.increment) c.loop-i.invariant.3 ∙ sym (on_next c.args.increment c.args.start c.loop-i.i), more)
+    let more = prepared_more c.args.increment c.args.start c.loop-i.i c.loop-i.rests c.loop-i.powers c.loop-i.c0 c.split-p.result.rest c.split-p.result.power (omega arith) (omega arith) c.loop-i.invariant.0 c.split-p.ensures c.loop-i.invariant.1 in
+    (ap (λ (c0 : Float). c0 ⊕ c.args.increment) c.loop-i.invariant.0 ∙ sym (on_next c.args.increment c.args.start c.loop-i.i), more)
 
 pub returns : goal.returns
 returns c =
     let all : c.loop-i.i ≡ c.args.n = omega arith in
-    subst (λ (n : ℕ). (c.loop-i.c0 ≡ on_by c.args.increment c.args.start n) × Prepared c.args.increment c.args.start n c.loop-i.rests c.loop-i.powers) all (c.loop-i.invariant.3, c.loop-i.invariant.4)
+    subst (λ (n : ℕ). (c.loop-i.c0 ≡ on_by c.args.increment c.args.start n) × Prepared c.args.increment c.args.start n c.loop-i.rests c.loop-i.powers) all (c.loop-i.invariant.0, c.loop-i.invariant.1)

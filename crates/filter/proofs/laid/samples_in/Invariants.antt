@@ -1,6 +1,5 @@
 -- `samples_in` meets its contract: the samples that are left, from the state here on, come to what all of them come to from the start. Assumes nothing.
 use mathlib.Core.Path.{◌≡◌}
-use Prim.Native.Nat.{◌-◌, ◌≤◌}
 use lib.ListN.{length}
 use Rattle.history.specs.Through.{through}
 use Rattle.history.proofs.ThroughLaws.{from_here}
@@ -10,11 +9,7 @@ use Rattle.filter.specs.Sample.{state}
 use Rattle.filter.specs.Zero.{filtered_of}
 use Rattle.filter.proofs.laid.samples_in.Given as goal
 
-abbrev pub invariant-loop-i : goal.invariant-loop-i
-invariant-loop-i l =
-    (l.i ≤ length l.samples) × (length l.samples ≡ length l.initial.samples) × (length l.c ≡ length l.initial.c) × (length l.d11 ≡ 6) × (length l.d12 ≡ 6) × (length l.first ≡ length l.initial.first) × (length l.second ≡ length l.initial.second) × (length l.d21 ≡ length l.initial.d21) × (length l.d22 ≡ 6)
-    × (from_here (filtered_of l.alpha l.volume l.increments) l.i (state l.c (filter l.d11 l.d12 (flat (length l.initial.c) l.first l.second l.d21) l.d22)) l.samples
-    ≡ through (filtered_of l.alpha l.volume l.increments) (state l.initial.c (filter l.initial.d11 l.initial.d12 (flat (length l.initial.c) l.initial.first l.initial.second l.initial.d21) l.initial.d22)) l.initial.samples)
-
-abbrev pub decreases-loop-i : goal.decreases-loop-i
-decreases-loop-i l = length l.samples - l.i
+abbrev pub invariant-loop-x : goal.invariant-loop-x
+invariant-loop-x l =
+    from_here (filtered_of l.alpha l.volume l.increments) l.x-index (state l.c (filter l.d11 l.d12 (flat (length l.initial.c) l.first l.second l.d21) l.d22)) l.samples
+    ≡ through (filtered_of l.alpha l.volume l.increments) (state l.initial.c (filter l.initial.d11 l.initial.d12 (flat (length l.initial.c) l.initial.first l.initial.second l.initial.d21) l.initial.d22)) l.initial.samples

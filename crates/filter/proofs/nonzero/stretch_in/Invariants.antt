@@ -1,17 +1,11 @@
 -- `stretch_in` meets its contract: the samples that are left, from the state here on, come to what all of them come to from the start. Assumes nothing.
 use mathlib.Core.Path.{◌≡◌}
-use Prim.Native.Nat.{◌-◌, ◌≤◌}
-use lib.ListN.{length}
 use Rattle.history.specs.Through.{through}
 use Rattle.history.proofs.ThroughLaws.{from_here}
 use Rattle.filter.specs.Sample.{state}
 use Rattle.filter.specs.NonZero.{sample_of}
 use Rattle.filter.proofs.nonzero.stretch_in.Given as goal
 
-abbrev pub invariant-loop-i : goal.invariant-loop-i
-invariant-loop-i l =
-    (l.i ≤ length l.samples) × (length l.samples ≡ length l.initial.samples) × (length l.c ≡ length l.initial.c) × (length l.d ≡ length l.initial.d)
-    × (from_here (sample_of l.alpha l.stages l.volume l.increments) l.i (state l.c l.d) l.samples ≡ through (sample_of l.alpha l.stages l.volume l.increments) (state l.initial.c l.initial.d) l.initial.samples)
-
-abbrev pub decreases-loop-i : goal.decreases-loop-i
-decreases-loop-i l = length l.samples - l.i
+abbrev pub invariant-loop-x : goal.invariant-loop-x
+invariant-loop-x l =
+    from_here (sample_of l.alpha l.stages l.volume l.increments) l.x-index (state l.c l.d) l.samples ≡ through (sample_of l.alpha l.stages l.volume l.increments) (state l.initial.c l.initial.d) l.initial.samples
