@@ -14,7 +14,7 @@ use Rattle.number.proofs.Lists.{length_row, later_row, put_row_rest}
 use Rattle.mglsa.specs.declared.pair.Row.{Row}
 use Rattle.mglsa.specs.declared.pair.Both.{Both}
 use Rattle.mglsa.specs.Mglsa.{Passed, passed, warps, warped, dff_of, stage_of}
-use Rattle.mglsa.specs.Pair.{standing, started, carried, WarpedRow, Warped, both_of}
+use Rattle.mglsa.specs.Pair.{standing, started, between, carried, WarpedRow, Warped, both_of}
 use Rattle.mglsa.proofs.MglsaLaws.{warp_turn, warp_end, length_stage}
 use Rattle.mglsa.proofs.StandingLaws.{standing_start, row_warped, stage_made}
 
@@ -22,10 +22,10 @@ use Rattle.mglsa.proofs.StandingLaws.{standing_start, row_warped, stage_made}
 
 module _ (alpha : Float) (c d : List Float) (i n : ℕ) (s : Both) where
   abbrev first : Row
-  first = carried (d ‼ (i + 1)) alpha (c ‼ (i + 1)) s.first
+  first = carried (between (d ‼ (i + 1)) alpha s.first) (d ‼ (i + 1)) (c ‼ (i + 1)) s.first
 
   abbrev second : Row
-  second = carried (d ‼ (n + i + 1)) alpha (c ‼ (i + 1)) s.second
+  second = carried (between (d ‼ (n + i + 1)) alpha s.second) (d ‼ (n + i + 1)) (c ‼ (i + 1)) s.second
 
   abbrev after : List Float
   after = set (set d (i + 1) first.before) (n + i + 1) second.before

@@ -11,7 +11,7 @@ use Rattle.number.specs.F64.{◌⊕◌, ◌⊖◌, ◌⊗◌, 1f, ◌‼◌}
 use Rattle.number.proofs.Lists.{left_next, left_none}
 use Rattle.mglsa.specs.Mglsa.{passed, warp_at, warped, pushed, dff_of}
 use Rattle.mglsa.specs.declared.pair.Row.{Row}
-use Rattle.mglsa.specs.Pair.{standing, carried, WarpedRow}
+use Rattle.mglsa.specs.Pair.{standing, between, carried, WarpedRow}
 use Rattle.mglsa.proofs.MglsaLaws.{dff_of_lem}
 
 -- ---- at tap i
@@ -50,7 +50,7 @@ module _ (d : List Float) (i : ℕ) (some : 1 ≤ i) (most : i + 1 ≤ length d)
 
 module _ (alpha : Float) (c d after : List Float) (i : ℕ) (s : Row) (next : Float) (some : 1 ≤ i) (most : i + 1 < length d) where
   abbrev r : Row
-  r = carried next alpha (c ‼ (i + 1)) s
+  r = carried (between next alpha s) next (c ‼ (i + 1)) s
 
   module _ (b : s.before ≡ standing i s.here d ‼ (i - 1)) (n : next ≡ d ‼ (i + 1)) (e : after ≡ set d (i + 1) r.before) where
     moved : standing (i + 1) next after ≡ standing i r.before d

@@ -21,11 +21,13 @@ one_moved = refl
 abbrev pub started : List Float → ℕ → Float → Row
 started d from factor = record { before = d ‼ from; here = d ‼ (from + 1); sum = d ‼ from ⊗ factor }
 
--- the tap that is carried, between its neighbours, and the sum with it
-abbrev pub carried : (next alpha factor : Float) → Row → Row
-carried next alpha factor s =
-    let tap = s.here ⊕ alpha ⊗ (next ⊖ s.before) in
-    record { before = tap; here = next; sum = s.sum ⊕ tap ⊗ factor }
+-- the tap that is carried, between its neighbours
+abbrev pub between : (next alpha : Float) → Row → Float
+between next alpha s = s.here ⊕ alpha ⊗ (next ⊖ s.before)
+
+-- a tap on, with the sum
+abbrev pub carried : (tap next factor : Float) → Row → Row
+carried tap next factor s = record { before = tap; here = next; sum = s.sum ⊕ tap ⊗ factor }
 
 -- tap i of a row as `warp_at` has it, and the tap that is carried on
 pub record WarpedRow (alpha : Float) (c : List Float) (i : ℕ) (s : Row) (d : List Float) (r : Row) (after : List Float) : Type 0 where

@@ -3,7 +3,7 @@
 ghost use Rattle.std.specs.Prelude.{◌≡◌, ◌+◌, ◌-◌, ◌*◌, ◌≤◌, ◌<◌, length, take, drop};
 ghost use Rattle.number.specs.F64.{◌‼◌};
 ghost use Rattle.mglsa.specs.Mglsa.{passed, warped, stage_of};
-ghost use Rattle.mglsa.specs.Pair.{standing, started, carried, Warped, both_of};
+ghost use Rattle.mglsa.specs.Pair.{standing, started, between, carried, Warped, both_of};
 
 // What is carried from tap to tap of a row: the tap before as it is now, the tap here as it was, whose place the one before has taken,
 // and the sum.
@@ -27,11 +27,17 @@ impl Row {
         }
     }
 
-    // The tap here between its neighbours, which is carried on as the one before, and the sum with it.
-    fn on(self, next: f64, alpha: f64, factor: f64) -> Self
-        ensures { result ≡ carried next alpha factor self }
+    // The tap here between its neighbours.
+    fn between(self, next: f64, alpha: f64) -> f64
+        ensures { result ≡ between next alpha self }
     {
-        let tap = self.here + alpha * (next - self.before);
+        self.here + alpha * (next - self.before)
+    }
+
+    // A tap on: the one here has become `tap`.
+    fn on(self, tap: f64, next: f64, factor: f64) -> Self
+        ensures { result ≡ carried tap next factor self }
+    {
         Self {
             before: tap,
             here: next,
@@ -53,12 +59,17 @@ fn warp_both_at(d: &mut [f64], alpha: f64, c: &[f64], i: usize, n: usize, s: Bot
     ensures { Warped alpha c.now i n s d.old result d.new }
 {
     let j = n + i;
+    let next = d[i + 1];
+    let next2 = d[j + 1];
+    let first = s.first.between(next, alpha);
+    let second = s.second.between(next2, alpha);
+    d[i + 1] = first;
+    d[j + 1] = second;
     let factor = c[i + 1];
-    let first = s.first.on(d[i + 1], alpha, factor);
-    let second = s.second.on(d[j + 1], alpha, factor);
-    d[i + 1] = first.before;
-    d[j + 1] = second.before;
-    Both { first, second }
+    Both {
+        first: s.first.on(first, next, factor),
+        second: s.second.on(second, next2, factor),
+    }
 }
 
 // All taps but the first and the last of both rows, each to the next place, and the sums.

@@ -9,4 +9,4 @@ bounds-d-j-2 c = simp length-set (omega arith)
 
 pub returns : goal.returns
 returns c =
-    rw (c.on-first.ensures, c.on-second.ensures) (warped_both c.args.alpha c.args.c.now c.args.d.now c.args.i c.args.n c.args.s c.requires.0 c.requires.1 c.requires.2 c.requires.4 c.requires.5)
+    rw (c.on.ensures, c.on-2.ensures, c.between-first.ensures, c.between-second.ensures) (warped_both c.args.alpha c.args.c.now c.args.d.now c.args.i c.args.n c.args.s c.requires.0 c.requires.1 c.requires.2 c.requires.4 c.requires.5)
