@@ -4,7 +4,7 @@
 // a limit, ends the program.
 #![tactic(auto)]
 
-ghost use Rattle.std.specs.Prelude.{◌≡◌, ◌+◌, ◌-◌, ◌*◌, ◌≤◌, IfOk, length};
+ghost use Rattle.std.specs.Prelude.{◌≡◌, ◌+◌, ◌-◌, ◌*◌, ◌≤◌, ◌<◌, IfOk, IfSome, length};
 
 use mglsa::MelGeneralizedLogSpectrumApproximation;
 use mlsa::MelLogSpectrumApproximation;
@@ -45,54 +45,46 @@ fn print_filter(rt: &impl Print, f: MelLogSpectrumApproximation, taps: usize) ->
     print_first(rt, &d21, taps)
 }
 
-// Replays a case of stage 0, with room for its numbers.
+// Replays a case of stage 0 whose taps stand at `at`.
 fn replay_zero(
     rt: &impl Print,
     text: &[u8],
     at: usize,
-    c: &mut [f64],
-    increments: &mut [f64],
     samples: &mut [f64],
+    c: &mut [f64],
+    increments: &[f64],
+    alpha: f64,
+    volume: f64,
 ) -> io::Result<()>
-    requires in_bounds { (2 ≤ length c.old) × (length c.old ≤ 64) × (length increments.old ≡ length c.old) × (length samples.old ≤ 512) }
-    requires samples_in_bounds { at + 17 * (23 + 8 * length c.old + length samples.old) ≤ length text.now }
+    requires in_bounds { (2 ≤ length c.old) × (length c.old ≤ 64) × (length increments.now ≡ length c.old) }
+    requires taps_in_bounds { at + 17 * (18 + 6 * length c.old) ≤ length text.now }
 {
-    let n = c.len();
-    let taps = 6 * n;
-    let alpha = words::float(text, at + 17 * 3);
-    let volume = words::float(text, at + 17 * 4);
-    words::floats(text, at + 17 * 5, c);
-    words::floats(text, at + 17 * (5 + n), increments);
-    let before = filter_at(text, at + 17 * (5 + 2 * n), taps);
-    words::floats(text, at + 17 * (23 + 8 * n), samples);
+    let taps = 6 * c.len();
+    let before = filter_at(text, at, taps);
     let after = filter::zero::stretch(before, samples, c, increments, alpha, volume);
     words::print_floats(rt, samples)?;
     words::print_floats(rt, c)?;
     print_filter(rt, after, taps)
 }
 
-// Replays a case of another stage, whose rows have so many taps, with room for its numbers.
+// Replays a case of another stage, whose rows have so many taps.
 fn replay_nonzero(
     rt: &impl Print,
     text: &[u8],
     at: usize,
     stages: usize,
     taps: usize,
-    c: &mut [f64],
-    increments: &mut [f64],
     samples: &mut [f64],
+    c: &mut [f64],
+    increments: &[f64],
+    alpha: f64,
+    volume: f64,
 ) -> io::Result<()>
-    requires in_bounds { (2 ≤ length c.old) × (length c.old ≤ 64) × (length increments.old ≡ length c.old) × (length samples.old ≤ 512) }
-    requires stages_bound { (stages ≤ 8) × (taps ≤ 512) × (at + 17 * (5 + 2 * length c.old + taps + length samples.old) ≤ length text.now) }
+    requires in_bounds { (2 ≤ length c.old) × (length c.old ≤ 64) × (length increments.now ≡ length c.old) }
+    requires stages_bound { (stages ≤ 8) × (taps ≤ 512) × (at + 17 * taps ≤ length text.now) }
 {
-    let n = c.len();
-    let alpha = words::float(text, at + 17 * 3);
-    let volume = words::float(text, at + 17 * 4);
-    words::floats(text, at + 17 * 5, c);
-    words::floats(text, at + 17 * (5 + n), increments);
     let mut d = [0.0; 512];
-    words::floats(text, at + 17 * (5 + 2 * n), &mut d[0..taps]);
-    words::floats(text, at + 17 * (5 + 2 * n + taps), samples);
+    words::floats(text, at, &mut d[0..taps]);
     let before = MelGeneralizedLogSpectrumApproximation { d };
     let after = filter::nonzero::stretch(before, stages, samples, c, increments, alpha, volume);
     words::print_floats(rt, samples)?;
@@ -101,69 +93,20 @@ fn replay_nonzero(
     print_first(rt, &rows, taps)
 }
 
-// Replays the case of stage 0 at `at` in arrays of its own, and answers how many bytes it has: 0 where it is cut off.
-fn zero_case(
-    rt: &impl Print,
-    text: &[u8],
-    at: usize,
-    nmcp: usize,
-    count: usize,
-) -> io::Result<usize>
-    requires { (at ≤ length text.now) × (2 ≤ nmcp) × (nmcp ≤ 64) × (count ≤ 512) }
-    ensures { IfOk result (λ n. n ≤ length text.now - at) }
+// So many taps has a case: at stage 0 three lists of six beside its six rows, else a row a stage.
+fn taps_of(stages: usize, nmcp: usize) -> usize
+    requires { (stages ≤ 8) × (nmcp ≤ 64) }
+    ensures bound { result ≤ 512 }
+    ensures zero { stages ≡ 0 → result ≡ 18 + 6 * nmcp }
 {
-    let size = 17 * (23 + 8 * nmcp + count);
-    if size > text.len() - at {
-        return Ok(0);
+    if stages == 0 {
+        18 + 6 * nmcp
+    } else {
+        stages * nmcp
     }
-    let mut c = [0.0; 64];
-    let mut increments = [0.0; 64];
-    let mut samples = [0.0; 512];
-    replay_zero(
-        rt,
-        text,
-        at,
-        &mut c[0..nmcp],
-        &mut increments[0..nmcp],
-        &mut samples[0..count],
-    )?;
-    Ok(size)
 }
 
-// The same for the other stages.
-fn nonzero_case(
-    rt: &impl Print,
-    text: &[u8],
-    at: usize,
-    stages: usize,
-    nmcp: usize,
-    count: usize,
-) -> io::Result<usize>
-    requires { (at ≤ length text.now) × (stages ≤ 8) × (2 ≤ nmcp) × (nmcp ≤ 64) × (count ≤ 512) }
-    ensures { IfOk result (λ n. n ≤ length text.now - at) }
-{
-    let taps = stages * nmcp;
-    let size = 17 * (5 + 2 * nmcp + taps + count);
-    if size > text.len() - at {
-        return Ok(0);
-    }
-    let mut c = [0.0; 64];
-    let mut increments = [0.0; 64];
-    let mut samples = [0.0; 512];
-    replay_nonzero(
-        rt,
-        text,
-        at,
-        stages,
-        taps,
-        &mut c[0..nmcp],
-        &mut increments[0..nmcp],
-        &mut samples[0..count],
-    )?;
-    Ok(size)
-}
-
-// Replays the case at `at`, and answers how many bytes it has: 0 where it is cut off or past a limit.
+// Replays the case at `at`, and answers how many bytes it has: none where it is cut off or past a limit.
 fn replay_case(
     rt: &impl Print,
     text: &[u8],
@@ -171,27 +114,39 @@ fn replay_case(
     stage: u64,
     nmcp: usize,
     count: usize,
-) -> io::Result<usize>
+) -> io::Result<Option<usize>>
     requires { at ≤ length text.now }
-    ensures { IfOk result (λ n. n ≤ length text.now - at) }
+    ensures { IfOk result (λ size. IfSome size (λ n. (0 < n) × (n ≤ length text.now - at))) }
 {
-    if stage > 8 {
-        return Ok(0);
+    if stage > 8 || nmcp < 2 || nmcp > 64 || count > 512 {
+        return Ok(None);
     }
-    if nmcp < 2 {
-        return Ok(0);
+    let stages = stage as usize;
+    let taps = taps_of(stages, nmcp);
+    let size = 17 * (5 + 2 * nmcp + taps + count);
+    if size > text.len() - at {
+        return Ok(None);
     }
-    if nmcp > 64 {
-        return Ok(0);
-    }
-    if count > 512 {
-        return Ok(0);
-    }
-    if stage == 0 {
-        zero_case(rt, text, at, nmcp, count)
+    let mut c = [0.0; 64];
+    let mut increments = [0.0; 64];
+    let mut samples = [0.0; 512];
+    let alpha = words::float(text, at + 17 * 3);
+    let volume = words::float(text, at + 17 * 4);
+    let c = &mut c[0..nmcp];
+    let increments = &mut increments[0..nmcp];
+    let samples = &mut samples[0..count];
+    words::floats(text, at + 17 * 5, c);
+    words::floats(text, at + 17 * (5 + nmcp), increments);
+    words::floats(text, at + 17 * (5 + 2 * nmcp + taps), samples);
+    let rows = at + 17 * (5 + 2 * nmcp);
+    if stages == 0 {
+        replay_zero(rt, text, rows, samples, c, increments, alpha, volume)?;
     } else {
-        nonzero_case(rt, text, at, stage as usize, nmcp, count)
+        replay_nonzero(
+            rt, text, rows, stages, taps, samples, c, increments, alpha, volume,
+        )?;
     }
+    Ok(Some(size))
 }
 
 // Replays the cases, one after the other.
@@ -201,10 +156,9 @@ fn replay(rt: &impl Print, text: &[u8]) -> io::Result<()> {
         let stage = words::word(text, at);
         let nmcp = words::word(text, at + 17) as usize;
         let count = words::word(text, at + 17 * 2) as usize;
-        let size = replay_case(rt, text, at, stage, nmcp, count)?;
-        if size == 0 {
+        let Some(size) = replay_case(rt, text, at, stage, nmcp, count)? else {
             return Ok(());
-        }
+        };
         at += size;
     }
     Ok(())

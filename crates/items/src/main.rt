@@ -5,7 +5,7 @@
 ghost use Rattle.std.specs.Prelude.{◌≡◌, ◌≤◌, length};
 
 use configuration::Configuration;
-use lanes::five::Numbers;
+use lanes::five::Five;
 use lanes::{Pair, five};
 use std::io;
 
@@ -72,7 +72,7 @@ fn filter(
 {
     let mut first = [0.0; 8];
     let mut second = [0.0; 8];
-    let heads = Numbers {
+    let heads = Five {
         first: Pair { a: 0.0, b: 0.0 },
         second: Pair { a: 0.0, b: 0.0 },
         last: x,
