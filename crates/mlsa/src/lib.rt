@@ -52,16 +52,18 @@ pub struct Sums {
     pub out: f64,
 }
 
-// The sums with the answer of row i.
-fn weigh(i: usize, y: f64, s: Sums) -> Sums
-    requires { i < 6 }
-    ensures { result ≡ weighed i y s }
-{
-    let v = y * MelLogSpectrumApproximation::PPADE[i];
-    let turned = if i % 2 == 1 { v } else { -v };
-    Sums {
-        x: s.x + turned,
-        out: s.out + v,
+impl Sums {
+    // The sums with the answer of row i.
+    fn weigh(self, i: usize, y: f64) -> Self
+        requires { i < 6 }
+        ensures { result ≡ weighed i y self }
+    {
+        let v = y * MelLogSpectrumApproximation::PPADE[i];
+        let turned = if i % 2 == 1 { v } else { -v };
+        Self {
+            x: self.x + turned,
+            out: self.out + v,
+        }
     }
 }
 
@@ -74,7 +76,7 @@ fn first_row(d11: &mut [f64], d12: &mut [f64], i: usize, s: Sums, alpha: f64, c:
     let y = tap * c[1];
     d11[i] = tap;
     d12[i] = y;
-    weigh(i, y, s)
+    s.weigh(i, y)
 }
 
 // The first part, its rows from 5 down to 1.
@@ -96,18 +98,19 @@ fn answer(d22: &mut [f64], y: Five<f64>, x: f64) -> f64
     ensures { (l : List Float) → passed l d22.new result ≡ ended (answered y (part l d22.old (record { x = x; out = 0f }))) }
 {
     let begun = Sums { x, out: 0.0 };
-    let s5 = weigh(5, y.last, begun);
-    let s4 = weigh(4, y.second.b, s5);
-    let s3 = weigh(3, y.second.a, s4);
-    let s2 = weigh(2, y.first.b, s3);
-    let s1 = weigh(1, y.first.a, s2);
+    let s = begun
+        .weigh(5, y.last)
+        .weigh(4, y.second.b)
+        .weigh(3, y.second.a)
+        .weigh(2, y.first.b)
+        .weigh(1, y.first.a);
     d22[5] = y.last;
     d22[4] = y.second.b;
     d22[3] = y.second.a;
     d22[2] = y.first.b;
     d22[1] = y.first.a;
-    d22[0] = s1.x;
-    s1.x + s1.out
+    d22[0] = s.x;
+    s.x + s.out
 }
 
 // The second part, with all rows at once: each reads the answer of the row before it as it was. The taps of row 5 are row 4 of d21, behind those that

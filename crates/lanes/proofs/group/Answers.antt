@@ -8,28 +8,6 @@ use Rattle.lanes.proofs.LaneLaws.{each_lane}
 use Rattle.lanes.proofs.TapLaws.{pair_read, four_put, group_stored}
 use Rattle.lanes.proofs.group.Goals as goal
 
-pub put-requires : goal.put-requires
-put-requires c =
-    omega arith
-
-pub put-requires-2 : goal.put-requires-2
-put-requires-2 c =
-    let kept_put : length c.put.new.l ≡ length c.args.d.now = c.put.auto.l in
-    omega arith
-
-pub put-requires-3 : goal.put-requires-3
-put-requires-3 c =
-    let kept_put : length c.put.new.l ≡ length c.args.d.now = c.put.auto.l in
-    let kept_put2 : length c.put-2.new.l ≡ length c.put.new.l = c.put-2.auto.l in
-    omega arith
-
-pub put-requires-4 : goal.put-requires-4
-put-requires-4 c =
-    let kept_put : length c.put.new.l ≡ length c.args.d.now = c.put.auto.l in
-    let kept_put2 : length c.put-2.new.l ≡ length c.put.new.l = c.put-2.auto.l in
-    let kept_put3 : length c.put-3.new.l ≡ length c.put-2.new.l = c.put-3.auto.l in
-    omega arith
-
 pub returns : goal.returns
 returns c =
     let n = length c.args.c.now in

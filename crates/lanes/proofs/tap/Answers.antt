@@ -6,10 +6,6 @@ use Rattle.lanes.proofs.LaneLaws.{each_lane}
 use Rattle.lanes.proofs.TapLaws.{pair_read, pair_put, tap_stored}
 use Rattle.lanes.proofs.tap.Goals as goal
 
-pub put-requires : goal.put-requires
-put-requires c =
-    omega arith
-
 pub returns : goal.returns
 returns c =
     let n = length c.args.c.now in

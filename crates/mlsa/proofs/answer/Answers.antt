@@ -11,4 +11,4 @@ pub bounds-d22-0 : goal.bounds-d22-0
 bounds-d22-0 c = simp length-set (omega arith)
 
 pub returns : goal.returns
-returns c l = rw (c.weigh-s1.ensures, c.weigh-s2.ensures, c.weigh-s3.ensures, c.weigh-s4.ensures, c.weigh-s5.ensures) refl
+returns c l = rw (c.weigh-s.ensures, c.weigh-4.ensures, c.weigh-3.ensures, c.weigh-2.ensures, c.weigh.ensures) refl

@@ -18,18 +18,6 @@ grouped_long c = (c.groups-grouped.auto.first ∙ c.start_all-begun.auto.first, 
 all_long : (c : After-singles-s) → (length c.singles-s.new.first ≡ length c.args.first.now) × (length c.singles-s.new.second ≡ length c.args.second.now) × (length c.singles-s.new.last ≡ length c.args.last.now)
 all_long c = (c.singles-s.auto.first ∙ c.groups-grouped.auto.first ∙ c.start_all-begun.auto.first, c.singles-s.auto.second ∙ c.groups-grouped.auto.second ∙ c.start_all-begun.auto.second, c.singles-s.auto.last ∙ c.groups-grouped.auto.last ∙ c.start_all-begun.auto.last)
 
-pub overflow_sub-from : goal.overflow_sub-from
-overflow_sub-from c =
-    omega arith
-
-pub overflow_mul-from : goal.overflow_mul-from
-overflow_mul-from c =
-    omega arith
-
-pub overflow_add-from : goal.overflow_add-from
-overflow_add-from c =
-    omega arith
-
 pub singles-s-requires : goal.singles-s-requires
 singles-s-requires c =
     let long = grouped_long (goal.at.singles-s-requires c).After-groups-grouped in

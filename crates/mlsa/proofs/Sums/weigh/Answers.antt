@@ -2,8 +2,8 @@
 use mathlib.Core.Path.{refl}
 use borrow.Author.Tests.{eq-eqb, ne_eqb}
 use Rattle.mlsa.specs.Mlsa.{weighed}
-use Rattle.mlsa.proofs.weigh.Goals as goal
-use Rattle.mlsa.proofs.weigh.Goals.{then-i-eq1, else-i-eq1}
+use Rattle.mlsa.proofs.Sums.weigh.Goals as goal
+use Rattle.mlsa.proofs.Sums.weigh.Goals.{then-i-eq1, else-i-eq1}
 
 pub returns : goal.returns
 unfolding weighed
