@@ -1,11 +1,13 @@
 -- Numbers and their bytes, over the width: each comes back from the other, alone and in a slice; and the turns of the loops that read and write them. Assumes nothing.
-use Rattle.std.proofs.Common.{◌≡◌, ℕ, zero, suc, ◌+◌, ◌-◌, ◌*◌, ◌/◌, ◌%◌, ◌^◌, ◌<◌, ◌≤◌, Bool, true, false, leb, List, [], ◌∷◌, ◌++◌, length, get_or, take, drop, set, sym, refl, ap, ◌∙◌, append_assoc, lt_of_lt_of_le, mod-lt, mod-eq_of_lt, add-one, arith, lit<, length-drop, length-take, length-take-le, get_or-drop, le-leb, leb-false, leb-true}
-use native.Mathlib.Nat.{pow-succ', mod-one, one-le-pow, div-add-mod, add-mul-mod_self_left, pow-le-pow_right}
+use Rattle.std.proofs.Common.{◌≡◌, ℕ, zero, suc, ◌+◌, ◌-◌, ◌*◌, ◌/◌, ◌%◌, ◌^◌, ◌<◌, ◌≤◌, Bool, true, false, leb, List, [], ◌∷◌, ◌++◌, length, take, drop, sym, refl, ap, ◌∙◌, append_assoc, lt_of_lt_of_le, mod-lt, mod-eq_of_lt, arith, lit<, length-drop, length-take, length-take-le, get_or-drop, le-leb, leb-false, leb-true}
+use native.Mathlib.Nat.{div-one, div-div-eq-div-mul, pow-suc, pow-succ', mod-one, one-le-pow, div-add-mod, add-mul-mod_self_left, pow-le-pow_right}
 use lib.Seq.{sets, sets-eq}
 use borrow.Author.Tests.{lt-leb}
-use Rattle.number.specs.declared.word.Word.TheVariants.{Value}
+use Rattle.std.specs.Prelude.{Some}
+use Rattle.std.specs.Int.{w64, byte_at, bytes_low_first, to_le_bytes, from_le_bytes}
+use Rattle.std.proofs.lemmas.Nat.{le_bytes_8}
 use Rattle.number.specs.Bytes.{bytes_of, number_of, Bytes, room, word_at, put_at}
-use Rattle.number.proofs.Lists.{left_next, row, put_row, put_row_rest, put_row_row, length_put_row, row_put_row}
+use Rattle.number.proofs.Lists.{row, put_row, put_row_rest, put_row_row, length_put_row, row_put_row}
 
 -- ---- a number and its bytes
 
@@ -40,6 +42,26 @@ unfolding number_of
 number_below [] h = lit< tt
 number_below (b ∷ l) h = rw pow-succ' (omega (arith, h 0, number_below l (λ i. h (suc i))))
 
+-- ---- std's words for eight bytes
+
+-- the bytes from number i on of v are those of what is left of v without the i lowest
+low_bytes : (i k v : ℕ) → bytes_low_first i k v ≡ bytes_of k (v / 256 ^ i)
+unfolding bytes_of
+low_bytes i zero v = refl
+low_bytes i (suc k) v =
+    let on : v / 256 ^ suc i ≡ v / 256 ^ i / 256 = ap (λ (p : ℕ). v / p) (pow-suc 256 i) ∙ sym (div-div-eq-div-mul v (256 ^ i) 256) in
+    ap (λ (b : ℕ). b ∷ bytes_low_first (suc i) k v) (byte_is i v) ∙ ap (λ (l : List ℕ). v / 256 ^ i % 256 ∷ l) (low_bytes (suc i) k v ∙ ap (bytes_of k) on)
+  where
+    byte_is : (i v : ℕ) → byte_at i v ≡ v / 256 ^ i % 256
+    byte_is zero v = ap (λ (n : ℕ). n % 256) (sym (div-one v))
+    byte_is (suc i) v = refl
+
+pub le_bytes : (v : ℕ) → to_le_bytes w64 v ≡ bytes_of 8 v
+le_bytes v = low_bytes 0 8 v ∙ ap (bytes_of 8) (div-one v)
+
+pub number_of_le : (l : List ℕ) (n : ℕ) → length l ≡ 8 → Bytes l → n < 2 ^ 64 → n ≡ from_le_bytes w64 l → n ≡ number_of l
+number_of_le l n long h hn e = sym (ap number_of (sym (sym (le_bytes n) ∙ le_bytes_8 l n long h e)) ∙ number_of_bytes_of 8 n ∙ mod-eq_of_lt hn)
+
 -- ---- a part of a slice of bytes
 
 pub bytes_drop : (n : ℕ) (l : List ℕ) → Bytes l → Bytes (drop n l)
@@ -58,32 +80,6 @@ part_below s a n h =
     let short : length part ≤ n = rw length-take (omega arith) in
     lt_of_lt_of_le (number_below part (bytes_take n (drop a s) (bytes_drop a s h))) (pow-le-pow_right (lit< tt) short)
 
--- seven bytes, or fewer, leave room for one more
-pub seven_below : (s : List ℕ) (a k : ℕ) → Bytes s → k < 8 → number_of (take k (drop a s)) < 2 ^ 56
-seven_below s a k h few =
-    let most : k ≤ 7 = omega arith in
-    lt_of_lt_of_le (part_below s a k h) (pow-le-pow_right (lit< tt) most)
-
--- ---- the loops' turns, at any width w
-
--- reading, from the highest byte down: the next lower byte goes in front of the k that were read
-pub read_turn : (s : List ℕ) (at w k : ℕ) → k < w → at + w ≤ length s
-    → number_of (take k (drop (at + (w - k)) s)) * 256 + get_or s (at + (w - 1 - k)) 0 ≡ number_of (take (k + 1) (drop (at + (w - (k + 1))) s))
-unfolding number_of
-read_turn s at w k kw hs =
-    let n : w - (k + 1) ≡ w - 1 - k = omega arith in
-    let m : at + (w - 1 - k) + 1 ≡ at + (w - k) = omega arith in
-    rw (n, add-one k, left_next s (at + (w - 1 - k)) 0 (omega arith), m) (omega arith)
-
--- writing, from the lowest byte up: the store at k leaves the bytes of the rest to be stored
-pub write_turn : (s : List ℕ) (at w k rest : ℕ) → k < w
-    → sets (set s (at + k) (rest % 256)) (at + (k + 1)) (bytes_of (w - (k + 1)) (rest / 256)) ≡ sets s (at + k) (bytes_of (w - k) rest)
-unfolding bytes_of
-write_turn s at w k rest h =
-    let n : w - k ≡ suc (w - (k + 1)) = omega arith in
-    let m : at + (k + 1) ≡ suc (at + k) = omega arith in
-    rw (n, m) refl
-
 -- all of them stored
 pub written : (s : List ℕ) (at w v : ℕ) → at + w ≤ length s → sets s at (bytes_of w v) ≡ take at s ++ bytes_of w v ++ drop (at + w) s
 written s at w v h = rw length_bytes at (sets-eq (bytes_of w v) s at (rw length_bytes h))
@@ -101,7 +97,7 @@ room_test n at h = go (leb at (n - 8)) refl
 -- ---- there and back in a slice
 
 -- the bytes of v in the place of w bytes, as a row
-as_row : (s : List ℕ) (at w v : ℕ) → take at s ++ bytes_of w v ++ drop (at + w) s ≡ put_row at (at + w) (bytes_of w v) s
+pub as_row : (s : List ℕ) (at w v : ℕ) → take at s ++ bytes_of w v ++ drop (at + w) s ≡ put_row at (at + w) (bytes_of w v) s
 as_row s at w v = append_assoc (take at s) (bytes_of w v) (drop (at + w) s) ∙ sym (put_row_rest at (at + w) s (omega arith) (bytes_of w v))
 
 module _ (s : List ℕ) (at w v : ℕ) (fits : at + w ≤ length s) where
@@ -118,23 +114,23 @@ module _ (s : List ℕ) (at w v : ℕ) (fits : at + w ≤ length s) where
       rw n at (ap (row at (at + w)) (as_row s at w v) ∙ row_put_row at (at + w) s (omega arith) fits (bytes_of w v) put_width)
 
 -- where there is room
-pub word_there : (s : List ℕ) (at : ℕ) → room (length s) at ≡ true → word_at s at ≡ Value (number_of (take 8 (drop at s)))
+pub word_there : (s : List ℕ) (at : ℕ) → room (length s) at ≡ true → word_at s at ≡ Some (number_of (take 8 (drop at s)))
 word_there s at r = rw r refl
 
 pub put_there : (s : List ℕ) (at v : ℕ) → room (length s) at ≡ true → put_at s at v ≡ take at s ++ bytes_of 8 v ++ drop (at + 8) s
 put_there s at v r = rw r refl
 
 -- reading what was written gives the number
-pub get_put : (s : List ℕ) (at v : ℕ) → v < 2 ^ 64 → room (length s) at ≡ true → word_at (put_at s at v) at ≡ Value v
+pub get_put : (s : List ℕ) (at v : ℕ) → v < 2 ^ 64 → room (length s) at ≡ true → word_at (put_at s at v) at ≡ Some v
 get_put s at v hv r =
     let p = take at s ++ bytes_of 8 v ++ drop (at + 8) s in
     let fits : at + 8 ≤ length s = leb-true (at + 8) (length s) r in
     let q : room (length p) at ≡ true = rw (length_put s at 8 v fits) r in
     let number : number_of (bytes_of 8 v) ≡ v = number_of_bytes_of 8 v ∙ mod-eq_of_lt hv in
-    ap (λ (l : List ℕ). word_at l at) (put_there s at v r) ∙ word_there p at q ∙ ap Value (ap number_of (bytes_put s at 8 v fits) ∙ number)
+    ap (λ (l : List ℕ). word_at l at) (put_there s at v r) ∙ word_there p at q ∙ ap Some (ap number_of (bytes_put s at 8 v fits) ∙ number)
 
 -- writing what was read changes nothing
-pub put_get : (s : List ℕ) (at v : ℕ) → Bytes s → word_at s at ≡ Value v → put_at s at v ≡ s
+pub put_get : (s : List ℕ) (at v : ℕ) → Bytes s → word_at s at ≡ Some v → put_at s at v ≡ s
 put_get s at v h e = go (room (length s) at) refl
   where
     go : (b : Bool) → room (length s) at ≡ b → put_at s at v ≡ s
@@ -143,7 +139,7 @@ put_get s at v h e = go (room (length s) at) refl
         let fits : at + 8 ≤ length s = leb-true (at + 8) (length s) r in
         let part = take 8 (drop at s) in
         let n : length part ≡ 8 = length-take-le 8 (drop at s) (rw length-drop (omega arith)) in
-        let w : Value (number_of part) ≡ Value v = sym (word_there s at r) ∙ e in
+        let w : Some (number_of part) ≡ Some v = sym (word_there s at r) ∙ e in
         let number : number_of part ≡ v = cc in
         let back : bytes_of 8 v ≡ part = ap (λ (k : ℕ). bytes_of k v) (sym n) ∙ ap (bytes_of (length part)) (sym number) ∙ bytes_of_number_of part (bytes_take 8 (drop at s) (bytes_drop at s h)) in
         let eight : at + 8 - at ≡ 8 = omega arith in

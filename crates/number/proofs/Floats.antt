@@ -1,8 +1,9 @@
 -- Which floats are the NaN, by a comparison and by cases, which are finite, and which numbers are floats. Assumes nothing.
 use Rattle.std.proofs.Common.{◌≡◌, ℕ, ◌*◌, ◌^◌, ◌≤◌, Bool, true, false, not, ◌&&◌, T, pos, sym, refl, ap, ◌∙◌, le→leb, eq-eqb}
 use borrow.Author.Tests.{not-true, not-false}
-use lib.Ieee.{Float, nan, inf, fin, binary64, up, down, eq, ne, lt, is_nan, in_float}
-use Rattle.number.specs.Range.{finite, is_strictly_within}
+use lib.Ieee.{Float, nan, inf, fin, binary64, up, down, eq, ne, is_nan, in_float}
+use Rattle.std.specs.Float.{float_is_finite}
+use Rattle.number.specs.Range.{finite}
 
 -- only the NaN differs from itself
 pub equals_itself : (x : Float) → eq x x ≡ not (is_nan x)
@@ -35,13 +36,12 @@ differs_is_nan x = ap not (equals_itself x) ∙ twice (is_nan x)
     twice true = refl
     twice false = refl
 
--- what lies strictly between the infinities is finite, and nothing else is
-pub between_infinities : (x : Float) → is_strictly_within x (inf true) (inf false) ≡ finite x
-unfolding lt
-between_infinities nan = refl
-between_infinities (inf true) = refl
-between_infinities (inf false) = refl
-between_infinities (fin s m e) = refl
+-- std's word for a finite float
+pub finite_is : (x : Float) → float_is_finite x ≡ finite x
+unfolding float_is_finite
+finite_is nan = refl
+finite_is (inf s) = refl
+finite_is (fin s m e) = refl
 
 -- a whole number up to 2^53 is a float
 pub small_float : (k : ℕ) → k ≤ 2 ^ 53 → T (in_float binary64 (pos k))

@@ -1,7 +1,6 @@
 -- Numbers as bytes, the lowest byte first, at any place of a list of bytes. Assumes nothing.
 use Rattle.std.specs.Prelude.{◌≡◌, ℕ, zero, suc, ◌+◌, ◌*◌, ◌/◌, ◌%◌, ◌<◌, Bool, true, false, cond, List, [], ◌∷◌, ◌++◌, length, take, drop, nat_le, slice_index, refl}
-use Rattle.number.specs.declared.word.Word.{Word}
-use Rattle.number.specs.declared.word.Word.TheVariants.{Short, Value}
+use Rattle.std.specs.Prelude.{Option, Some, None}
 
 -- the k lowest bytes of v
 unfoldable pub bytes_of : ℕ → ℕ → List ℕ
@@ -21,9 +20,9 @@ Bytes l = (i : ℕ) → slice_index l i < 256
 abbrev pub room : ℕ → ℕ → Bool
 room count at = nat_le (at + 8) count
 
--- the number of the eight bytes from `at` on, and Short where there are fewer
-abbrev pub word_at : List ℕ → ℕ → Word
-word_at s at = cond (room (length s) at) (Value (number_of (take 8 (drop at s)))) Short
+-- the number of the eight bytes from `at` on, and None where there are fewer
+abbrev pub word_at : List ℕ → ℕ → Option ℕ
+word_at s at = cond (room (length s) at) (Some (number_of (take 8 (drop at s)))) None
 
 -- s with the eight bytes of v from `at` on, and s itself where they have no room
 abbrev pub put_at : List ℕ → ℕ → ℕ → List ℕ
@@ -44,11 +43,11 @@ room_at_one = refl
 pub room_at_two : room 9 2 ≡ false
 room_at_two = refl
 
-pub word_in_place : word_at (9 ∷ 7 ∷ 1 ∷ 0 ∷ 0 ∷ 0 ∷ 0 ∷ 0 ∷ 0 ∷ []) 1 ≡ Value 263
+pub word_in_place : word_at (9 ∷ 7 ∷ 1 ∷ 0 ∷ 0 ∷ 0 ∷ 0 ∷ 0 ∷ 0 ∷ []) 1 ≡ Some 263
 unfolding number_of
 word_in_place = refl
 
-pub word_short : word_at (9 ∷ 7 ∷ 1 ∷ 0 ∷ 0 ∷ 0 ∷ 0 ∷ 0 ∷ 0 ∷ []) 2 ≡ Short
+pub word_short : word_at (9 ∷ 7 ∷ 1 ∷ 0 ∷ 0 ∷ 0 ∷ 0 ∷ 0 ∷ 0 ∷ []) 2 ≡ None
 word_short = refl
 
 pub put_in_place : put_at (9 ∷ 9 ∷ 9 ∷ 9 ∷ 9 ∷ 9 ∷ 9 ∷ 9 ∷ 9 ∷ 9 ∷ []) 1 263 ≡ 9 ∷ 7 ∷ 1 ∷ 0 ∷ 0 ∷ 0 ∷ 0 ∷ 0 ∷ 0 ∷ 9 ∷ []

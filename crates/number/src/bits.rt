@@ -2,24 +2,16 @@
 ghost use Rattle.std.specs.Prelude.{◌≡◌};
 ghost use Rattle.number.specs.Bits.{bits_of, float_of};
 
-// The bits of x; a NaN's are always 0x7FF8000000000000. Only a NaN differs from itself.
+// The bits of x; a NaN's are always 0x7FF8000000000000.
 pub fn bits_of(x: f64) -> u64
     ensures { result ≡ bits_of x }
 {
-    if x == x {
-        f64::to_bits(x)
-    } else {
-        0x7FF8_0000_0000_0000
-    }
+    std::num::f64_to_bits_with_nan(x)
 }
 
-// The float of the bits b. Above an infinity's pattern, the sign aside, every pattern is a NaN's.
+// The float of the bits b.
 pub fn float_of(b: u64) -> f64
     ensures { result ≡ float_of b }
 {
-    if b % 0x8000_0000_0000_0000 <= 0x7FF0_0000_0000_0000 {
-        f64::from_bits(b)
-    } else {
-        0.0 / 0.0
-    }
+    std::num::f64_from_bits_with_nan(b)
 }

@@ -2,13 +2,6 @@
 ghost use Rattle.std.specs.Prelude.{◌≡◌, ◌+◌, ◌*◌, ◌^◌, ◌<◌, ◌≤◌, ◌++◌, length, take, drop};
 ghost use Rattle.number.specs.Bytes.{bytes_of, number_of, room, word_at, put_at};
 
-// What stands at a place of a slice: fewer than eight bytes, or a number.
-#[derive(Clone, Copy)]
-pub enum Word {
-    Short,
-    Value(u64),
-}
-
 // Whether eight bytes stand from `at` on among `count`. The sum at + 8 is not made, since it could overflow.
 fn has_room(count: usize, at: usize) -> bool
     ensures { result ≡ room count at }
@@ -16,50 +9,32 @@ fn has_room(count: usize, at: usize) -> bool
     8 <= count && at <= count - 8
 }
 
-// v with the byte b below it. Seven bytes leave room for one more.
-fn with_byte(v: u64, b: u8) -> u64
-    requires { v < 2 ^ 56 }
-    ensures { result ≡ v * 256 + b }
-{
-    v * 256 + b as u64
-}
-
-// The number of the eight bytes from `at` on, from the highest down.
+// The number of the eight bytes from `at` on.
 fn read(s: &[u8], at: usize) -> u64
     requires { at + 8 ≤ length s.now }
     ensures { result ≡ number_of (take 8 (drop at s.now)) }
 {
-    let mut v: u64 = 0;
-    let mut k: usize = 0;
-    while k < 8 {
-        v = with_byte(v, s[at + (7 - k)]);
-        k += 1;
-    }
-    v
+    let mut bytes = [0; 8];
+    bytes.copy_from_slice(&s[at..at + 8]);
+    u64::from_le_bytes(bytes)
 }
 
-// The eight bytes of v stored from `at` on, from the lowest up.
+// The eight bytes of v stored from `at` on.
 fn write(s: &mut [u8], at: usize, v: u64)
     requires { at + 8 ≤ length s.old }
     ensures { s.new ≡ take at s.old ++ bytes_of 8 v ++ drop (at + 8) s.old }
 {
-    let mut rest = v;
-    let mut i: usize = 0;
-    while i < 8 {
-        s[at + i] = (rest % 256) as u8;
-        rest = rest / 256;
-        i += 1;
-    }
+    s[at..at + 8].copy_from_slice(&v.to_le_bytes());
 }
 
-// The number from `at` on, or Short where fewer than eight bytes stand there.
-pub fn get_word(s: &[u8], at: usize) -> Word
+// The number from `at` on, or None where fewer than eight bytes stand there.
+pub fn get_word(s: &[u8], at: usize) -> Option<u64>
     ensures { result ≡ word_at s.now at }
 {
     if has_room(s.len(), at) {
-        Word::Value(read(s, at))
+        Some(read(s, at))
     } else {
-        Word::Short
+        None
     }
 }
 

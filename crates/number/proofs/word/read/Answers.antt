@@ -1,24 +1,13 @@
--- `read`: v is the number of the last k of the eight bytes, and seven of them leave room for one more. Assumes nothing.
-use Rattle.std.proofs.Common.{◌≡◌, ◌+◌, ◌-◌, ◌∙◌, add-zero, arith, rules}
+-- `read`: std's number of eight bytes is ours. Assumes nothing.
+use Rattle.std.proofs.Common.{◌≡◌, ◌+◌, ◌-◌, take, drop, ◌∙◌, ap, arith}
 use Rattle.number.specs.Bytes.{number_of, Bytes}
-use Rattle.number.proofs.ByteLaws.{seven_below, read_turn}
+use Rattle.number.proofs.ByteLaws.{bytes_take, bytes_drop, number_of_le}
 use Rattle.number.proofs.word.read.Goals as goal
-
-pub loop-k-init : goal.loop-k-init
-unfolding number_of
-loop-k-init c = search rules
-
-pub with_byte-v-requires : goal.with_byte-v-requires
-with_byte-v-requires c =
-    let bytes : Bytes c.args.s.now = λ i. (c.shared_slice_known-1.given i).fits in
-    rw c.loop-k.invariant.1 (seven_below c.args.s.now (c.args.at + (8 - c.loop-k.k)) c.loop-k.k bytes (omega arith))
-
-pub loop-k-preserved : goal.loop-k-preserved
-loop-k-preserved c =
-    let turn = read_turn c.args.s.now c.args.at 8 c.loop-k.k (omega arith) c.requires in
-    (omega arith, c.with_byte-v.ensures ∙ rw c.loop-k.invariant.1 turn)
 
 pub returns : goal.returns
 returns c =
-    let z : c.loop-k.k ≡ 8 = omega arith in
-    rw (z, add-zero) at c.loop-k.invariant.1
+    let part = take 8 (drop c.args.at c.args.s.now) in
+    let eight : c.args.at + 8 - c.args.at ≡ 8 = omega arith in
+    let same : c.copy_from_slice.new.self ≡ part = rw eight at c.copy_from_slice.ensures.after in
+    let bytes : Bytes part = bytes_take 8 _ (bytes_drop c.args.at c.args.s.now (λ i. (c.type_inv.s i).fits)) in
+    number_of_le c.copy_from_slice.new.self _ c.copy_from_slice.ensures.len (rw same bytes) c.from_le_bytes.type_inv c.from_le_bytes.ensures ∙ ap number_of same
