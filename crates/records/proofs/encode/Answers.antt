@@ -1,5 +1,5 @@
 -- `encode` meets its contract: what is still to be written. Assumes nothing.
-use mathlib.Core.Path.{refl, ◌∙◌, ap, sym}
+use mathlib.Core.Path.{◌∙◌, ap, sym}
 use Prim.Native.Nat.{◌*◌}
 use native.Mathlib.Omega.{arith}
 use lib.ListN.{length, get_or}
@@ -7,9 +7,6 @@ use lib.Seq.{length-sets}
 use Rattle.records.specs.Records.{slot, record_of}
 use Rattle.records.proofs.RecordLaws.{encode_turn, encode_end}
 use Rattle.records.proofs.encode.Goals as goal
-
-pub loop-i-init : goal.loop-i-init
-loop-i-init c = (omega arith, refl, refl)
 
 pub loop-i-preserved : goal.loop-i-preserved
 loop-i-preserved c =
