@@ -2,41 +2,20 @@
 use mathlib.Core.Path.{◌≡◌, refl, sym, ◌∙◌, ap}
 use mathlib.Core.Bool.{Bool, true, false}
 use mathlib.Core.List.{List, [], ◌∷◌, ◌++◌}
-use Prim.Native.Nat.{ℕ, suc, ◌+◌, ◌*◌, ◌≤◌, ◌<◌}
+use Prim.Native.Nat.{ℕ, ◌+◌, ◌*◌, ◌<◌}
 use native.Mathlib.Omega.{arith}
-use lib.ListN.{length, get_or, take, drop, set, length-map}
+use lib.ListN.{length, take, length-map}
 use lib.Seq.{sets}
 use lib.Ieee.{Float}
 use mir.Val.{bool_byte}
 use borrow.Author.Tests.{eq-eqb, ne_eqb}
-use Rattle.number.specs.Bits.{bits_of}
 use Rattle.number.specs.Lists.{row}
-use Rattle.number.proofs.Lists.{left_next, left_none, sets_append}
+use Rattle.number.proofs.Lists.{sets_append}
 use Rattle.configuration.specs.Limits.{limits_kept}
 use Rattle.voice.specs.declared.Voice.{Voice}
 use Rattle.voice.proofs.FrontLaws.{lent_front}
 use Rattle.slots.specs.Slots.{bits, flag, head_values, excitation_values, spectrum_values, filter_values, values_of, spectrum_at, filter_at}
 use Rattle.slots.proofs.CountLaws.{Long, line_count, lpf_count, coefficients_count, increments_count, excitation_count, spectrum_count}
-
--- ---- a loop that stores: what is still to be stored
-
-module _ (s : List ℕ) (at i : ℕ) where
-  next_place : at + (i + 1) ≡ suc (at + i)
-  next_place = omega arith
-
-  pub numbers_turn : (vs : List ℕ) → i < length vs
-      → sets (set s (at + i) (get_or vs i 0)) (at + (i + 1)) (drop (i + 1) vs) ≡ sets s (at + i) (drop i vs)
-  numbers_turn vs h = rw (left_next vs i 0 h, next_place) refl
-
-  pub numbers_end : (vs : List ℕ) → length vs ≤ i → s ≡ sets s (at + i) (drop i vs)
-  numbers_end vs h = rw (left_none vs i h) refl
-
-  pub floats_turn : (xs : List Float) (z : Float) → i < length xs
-      → sets (set s (at + i) (bits_of (get_or xs i z))) (at + (i + 1)) (bits (drop (i + 1) xs)) ≡ sets s (at + i) (bits (drop i xs))
-  floats_turn xs z h = rw (left_next xs i z h, next_place) refl
-
-  pub floats_end : (xs : List Float) → length xs ≤ i → s ≡ sets s (at + i) (bits (drop i xs))
-  floats_end xs h = rw (left_none xs i h) refl
 
 -- ---- calls that store, one after the other
 

@@ -14,11 +14,7 @@ fn put_numbers(slots: &mut [u64], at: usize, values: &[u64])
     requires { at + length values.now ≤ length slots.old }
     ensures { slots.new ≡ sets slots.old at values.now }
 {
-    let mut i = 0;
-    while i < values.len() {
-        slots[at + i] = values[i];
-        i += 1;
-    }
+    slots[at..at + values.len()].copy_from_slice(values);
 }
 
 // Stores the bits of floats from a slot on.
@@ -26,10 +22,8 @@ fn put_floats(slots: &mut [u64], at: usize, values: &[f64])
     requires { at + length values.now ≤ length slots.old }
     ensures { slots.new ≡ sets slots.old at (map bits_of values.now) }
 {
-    let mut i = 0;
-    while i < values.len() {
-        slots[at + i] = bits_of(values[i]);
-        i += 1;
+    for (i, x) in values.iter().enumerate() {
+        slots[at + i] = bits_of(*x);
     }
 }
 
@@ -44,7 +38,7 @@ fn put_head(voice: Voice, slots: &mut [u64])
         c.nmcp as u64,
         c.nlpf as u64,
         c.stage,
-        c.log as u64,
+        u64::from(c.log),
         c.rate,
         bits_of(c.alpha),
         bits_of(c.beta),
@@ -55,7 +49,7 @@ fn put_head(voice: Voice, slots: &mut [u64])
         bits_of(c.high),
         voice.meter,
         voice.left as u64,
-        voice.first as u64,
+        u64::from(voice.first),
         bits_of(pulse.pitch),
         bits_of(pulse.counter),
         bits_of(pulse.increment),

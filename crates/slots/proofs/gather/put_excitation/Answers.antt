@@ -15,24 +15,6 @@ small c = sizes c.args.voice.configuration c.requires.0
 pub slice_bounds-put_floats-end : goal.slice_bounds-put_floats-end
 slice_bounds-put_floats-end c = omega (arith, (long (goal.at.slice_bounds-put_floats-end c).Start).line, (small (goal.at.slice_bounds-put_floats-end c).Start).nlpf_most)
 
-pub slice_bounds-put_floats-end-2 : goal.slice_bounds-put_floats-end-2
-slice_bounds-put_floats-end-2 c = omega (arith, (long (goal.at.slice_bounds-put_floats-end-2 c).Start).lpf, (small (goal.at.slice_bounds-put_floats-end-2 c).Start).nlpf_most)
-
-pub noise_at-requires : goal.noise_at-requires
-noise_at-requires c = (small (goal.at.noise_at-requires c).Start).nlpf_most
-
-pub put_numbers-requires : goal.put_numbers-requires
-put_numbers-requires c = omega (arith, c.noise_at.ensures)
-
-pub queue_at-requires : goal.queue_at-requires
-queue_at-requires c = (small (goal.at.queue_at-requires c).Start).nlpf_most
-
-pub slice_bounds-put_floats-end-3 : goal.slice_bounds-put_floats-end-3
-slice_bounds-put_floats-end-3 c = omega (arith, (long (goal.at.slice_bounds-put_floats-end-3 c).Start).queue)
-
-pub put_floats-requires-3 : goal.put_floats-requires-3
-put_floats-requires-3 c = omega (arith, (long (goal.at.put_floats-requires-3 c).Start).queue, c.queue_at.ensures)
-
 pub returns : goal.returns
 returns c =
     excitation_stored c.args.voice (long (goal.at.returns c).Start) _ _ _ _ c.requires.0 _ c.put_floats.ensures c.put_floats-2.ensures (rw c.noise_at.ensures at c.put_numbers.ensures) (rw c.queue_at.ensures at c.put_floats-3.ensures)

@@ -2,26 +2,13 @@
 use mathlib.Core.Path.{◌≡◌}
 use native.Mathlib.Omega.{arith}
 use lib.ListN.{length}
-use Rattle.slots.proofs.CountLaws.{held_long, rows_most, filter_rows}
-use Rattle.slots.proofs.GatherLaws.{rows_stored}
+use Rattle.slots.proofs.CountLaws.{held_long, rows_most}
 use Rattle.slots.proofs.gather.put_nonzero.Goals as goal
 use Rattle.slots.proofs.gather.put_nonzero.Goals.{Start}
 
 long : (c : Start) → length c.args.voice.nonzero.d ≡ 512
 long c = (held_long c.args.voice _ c.well_formed.0).d
 
-pub overflow_mul-rows : goal.overflow_mul-rows
-overflow_mul-rows c =
-    record { fits = omega (arith, rows_most c.args.voice.configuration c.requires.0) }
-
 pub slice_bounds-put_floats-end : goal.slice_bounds-put_floats-end
 slice_bounds-put_floats-end c =
     omega (arith, long (goal.at.slice_bounds-put_floats-end c).Start, rows_most c.args.voice.configuration c.requires.0)
-
-pub put_floats-requires : goal.put_floats-requires
-put_floats-requires c =
-    omega (arith, filter_rows c.args.voice.configuration c.requires.1)
-
-pub returns : goal.returns
-returns c =
-    rows_stored c.args.voice _ _ c.args.at c.requires.1 c.put_floats.ensures

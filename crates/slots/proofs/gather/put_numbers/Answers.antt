@@ -1,19 +1,7 @@
--- `put_numbers` meets its contract: what is still to be stored. Assumes nothing.
-use mathlib.Core.Path.{◌≡◌, refl, ◌∙◌}
-use Prim.Native.Nat.{◌+◌}
-use native.Mathlib.Omega.{arith}
-use lib.ListN.{length-set}
-use Rattle.slots.proofs.GatherLaws.{numbers_turn, numbers_end}
+-- `put_numbers` meets its contract: a part that is put is a run of stores. Assumes nothing.
+use Rattle.std.proofs.Common.{length, refl}
+use Rattle.number.proofs.Lists.{put_row_sets}
 use Rattle.slots.proofs.gather.put_numbers.Goals as goal
 
-pub loop-i-init : goal.loop-i-init
-loop-i-init c =
-    let all : c.args.at + 0 ≡ c.args.at = omega arith in
-    (omega arith, refl, rw all refl)
-
-pub loop-i-preserved : goal.loop-i-preserved
-loop-i-preserved c =
-    (omega arith, length-set c.loop-i.slots (c.args.at + c.loop-i.i) _ ∙ c.loop-i.invariant.1, numbers_turn c.loop-i.slots c.args.at c.loop-i.i c.args.values.now (omega arith) ∙ c.loop-i.invariant.2)
-
 pub returns : goal.returns
-returns c = numbers_end c.loop-i.slots c.args.at c.loop-i.i c.args.values.now (omega arith) ∙ c.loop-i.invariant.2
+returns c = rw c.copy_from_slice.ensures.after (put_row_sets c.args.slots.now c.args.values.now c.args.at (length c.args.values.now) refl c.requires)

@@ -13,14 +13,6 @@ pub slice_bounds-put_floats-end : goal.slice_bounds-put_floats-end
 slice_bounds-put_floats-end c =
     omega (arith, (long (goal.at.slice_bounds-put_floats-end c).Start).coefficients, (sizes c.args.voice.configuration c.requires.0).nmcp_most)
 
-pub slice_bounds-put_floats-end-2 : goal.slice_bounds-put_floats-end-2
-slice_bounds-put_floats-end-2 c =
-    omega (arith, (long (goal.at.slice_bounds-put_floats-end-2 c).Start).increments, (sizes c.args.voice.configuration c.requires.0).nmcp_most)
-
-pub slice_bounds-put_floats-end-3 : goal.slice_bounds-put_floats-end-3
-slice_bounds-put_floats-end-3 c =
-    omega (arith, (long (goal.at.slice_bounds-put_floats-end-3 c).Start).targets, (sizes c.args.voice.configuration c.requires.0).nmcp_most)
-
 pub returns : goal.returns
 returns c =
     spectrum_stored c.args.voice (long (goal.at.returns c).Start) _ _ _ _ c.requires.0 c.args.at c.put_floats.ensures c.put_floats-2.ensures c.put_floats-3.ensures
