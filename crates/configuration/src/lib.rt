@@ -32,7 +32,7 @@ const FURTHEST: f64 = 20.0;
 
 // In the order of the rest records' first twelve slots; `log` is the log gain.
 #[repr(C)]
-#[derive(Clone, Copy)]
+#[derive(Clone, Copy, Default)]
 pub struct Configuration {
     pub nmcp: usize,
     pub nlpf: usize,

@@ -7,7 +7,7 @@ ghost use Rattle.std.specs.Prelude.{◌≡◌};
 ghost use Rattle.voice.specs.Voice.{at_rest, idle_voice, acceptable};
 ghost use Rattle.voice.specs.Open.{Opens};
 
-use answers::{DONE, LIMIT_BROKEN};
+use answers::{DONE, Refusal};
 use configuration::Configuration;
 use mglsa::MelGeneralizedLogSpectrumApproximation;
 use mlsa::MelLogSpectrumApproximation;
@@ -72,6 +72,21 @@ pub fn usable(
     (used <= FILLING) & frames & begun
 }
 
+impl Voice {
+    // Whether restore's rules hold of its values: else it is idle.
+    pub fn is_usable(&self) -> bool
+        ensures { result ≡ acceptable self.now.configuration self.now.meter self.now.left self.now.first self.now.random.used }
+    {
+        usable(
+            self.configuration,
+            self.meter,
+            self.left,
+            self.first,
+            self.random.used,
+        )
+    }
+}
+
 // A voice whose slots but these are zero.
 fn at_rest(configuration: Configuration, first: bool, random: Random) -> Voice
     ensures { result ≡ at_rest configuration first random }
@@ -97,26 +112,12 @@ fn at_rest(configuration: Configuration, first: bool, random: Random) -> Voice
 fn idle() -> Voice
     ensures { result ≡ idle_voice }
 {
-    let configuration = Configuration {
-        nmcp: 0,
-        nlpf: 0,
-        stage: 0,
-        log: false,
-        rate: 0,
-        alpha: 0.0,
-        beta: 0.0,
-        volume: 0.0,
-        fperiod: 0,
-        nodata: 0.0,
-        low: 0.0,
-        high: 0.0,
-    };
     let random = Random {
         next: 0,
         used: 0,
         queue: [0.0; 64],
     };
-    at_rest(configuration, false, random)
+    at_rest(Configuration::default(), false, random)
 }
 
 // OPEN: a fresh voice where every limit holds.
@@ -130,7 +131,7 @@ pub fn open(configuration: Configuration) -> Answered
         };
     }
     Answered {
-        number: LIMIT_BROKEN,
+        number: Refusal::LimitBroken.number(),
         voice: idle(),
     }
 }
