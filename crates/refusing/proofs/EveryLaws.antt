@@ -1,7 +1,8 @@
 -- A test of every entry, one after the other. Assumes nothing.
-use mathlib.Core.Path.{◌≡◌, refl}
-use mathlib.Core.Bool.{Bool, true, false}
-use mathlib.Core.List.{List}
+use mathlib.Core.Path.{◌≡◌, refl, ap}
+use mathlib.Core.Bool.{Bool, true, false, ◌&&◌}
+use mathlib.Core.List.{List, [], ◌∷◌}
+use Rattle.std.specs.List.{list_all}
 use Prim.Native.Nat.{ℕ, ◌+◌, ◌≤◌, ◌<◌}
 use lib.ListN.{length, get_or, drop}
 use Rattle.number.proofs.Lists.{left_next, left_none}
@@ -20,3 +21,9 @@ module _ {A : Type 0} (test : A → Bool) (l : List A) (i : ℕ) (z : A) where
   pub every_done : length l ≤ i → every test (drop i l) ≡ true
   unfolding every
   every_done h = rw (left_none l i h) refl
+
+-- as the library says it of a list
+pub every_is : {A : Type 0} (test : A → Bool) (l : List A) → list_all test l ≡ every test l
+unfolding every
+every_is test [] = refl
+every_is test (x ∷ l) = ap (λ (b : Bool). test x && b) (every_is test l)

@@ -12,26 +12,12 @@ const MOST_SIZE: f64 = 1048576.0;
 pub fn all_finite(values: &[f64]) -> bool
     ensures { result ≡ every finite values.now }
 {
-    let mut i = 0;
-    while i < values.len() {
-        if !is_finite(values[i]) {
-            return false;
-        }
-        i += 1;
-    }
-    true
+    values.iter().all(|x| is_finite(*x))
 }
 
 // Whether every entry is at most 2^20 in size.
 pub fn all_within(values: &[f64]) -> bool
     ensures { result ≡ every small values.now }
 {
-    let mut i = 0;
-    while i < values.len() {
-        if !within(values[i], -MOST_SIZE, MOST_SIZE) {
-            return false;
-        }
-        i += 1;
-    }
-    true
+    values.iter().all(|x| within(*x, -MOST_SIZE, MOST_SIZE))
 }

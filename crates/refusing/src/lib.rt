@@ -4,48 +4,48 @@
 pub mod entries;
 
 ghost use Rattle.std.specs.Prelude.{◌≡◌};
-ghost use Rattle.refusing.specs.Refusal.{frame, earlier};
+ghost use Rattle.voice.specs.Answers.{number_for};
+ghost use Rattle.refusing.specs.Refusal.{earlier};
+ghost use Rattle.refusing.specs.Given.{frame_of};
 
 use entries::{all_finite, all_within};
 use number::range::is_finite;
-use voice::answers::{
-    DONE, ENTRY_BEYOND, METER_FULL, NOT_FINITE, SAMPLES_LEFT, SPECTRUM_LENGTH, TAP_COUNT,
-    VOICE_IDLE,
-};
-use voice::{MOST_METER, Voice, usable};
+use voice::answers::Refusal;
+use voice::{MOST_METER, Voice};
 
-// The first number of 2 to 8 that applies, and else 0.
-pub fn refusal(voice: Voice, lf0: f64, spectrum: &[f64], lpf: &[f64]) -> u64
-    ensures { result ≡ earlier (frame lf0 spectrum.now lpf.now) voice }
+// Log F0, a spectrum and filter taps.
+#[derive(Clone, Copy)]
+pub struct Frame<'a> {
+    pub lf0: f64,
+    pub spectrum: &'a [f64],
+    pub lpf: &'a [f64],
+}
+
+// The first of the rows 2 to 8 that applies.
+pub fn refusal(voice: &Voice, frame: Frame) -> Result<(), Refusal>
+    ensures { number_for result ≡ earlier (frame_of frame.entry) voice.now }
 {
     let configuration = voice.configuration;
-    let random = voice.random;
-    if !usable(
-        configuration,
-        voice.meter,
-        voice.left,
-        voice.first,
-        random.used,
-    ) {
-        return VOICE_IDLE;
+    if !voice.is_usable() {
+        return Err(Refusal::VoiceIdle);
     }
     if voice.left != 0 {
-        return SAMPLES_LEFT;
+        return Err(Refusal::SamplesLeft);
     }
-    if spectrum.len() != configuration.nmcp {
-        return SPECTRUM_LENGTH;
+    if frame.spectrum.len() != configuration.nmcp {
+        return Err(Refusal::SpectrumLength);
     }
-    if lpf.len() != configuration.nlpf {
-        return TAP_COUNT;
+    if frame.lpf.len() != configuration.nlpf {
+        return Err(Refusal::TapCount);
     }
-    if !(is_finite(lf0) & all_finite(spectrum) & all_finite(lpf)) {
-        return NOT_FINITE;
+    if !(is_finite(frame.lf0) & all_finite(frame.spectrum) & all_finite(frame.lpf)) {
+        return Err(Refusal::NotFinite);
     }
-    if (configuration.stage >= 1) & !all_within(spectrum) {
-        return ENTRY_BEYOND;
+    if (configuration.stage >= 1) & !all_within(frame.spectrum) {
+        return Err(Refusal::EntryBeyond);
     }
     if voice.meter > MOST_METER - configuration.fperiod as u64 {
-        return METER_FULL;
+        return Err(Refusal::MeterFull);
     }
-    DONE
+    Ok(())
 }
