@@ -1,5 +1,5 @@
 -- Give. Assumes nothing.
-use Rattle.std.specs.Prelude.{◌≡◌, Bool, true, false, [], ◌∷◌, ℕ, zero, suc, take}
+use Rattle.std.specs.Prelude.{◌≡◌, Bool, true, false, [], ◌∷◌, ℕ, zero, suc, take, Result, IfOk}
 use Rattle.elementary.specs.Outcome.{Outcome, outside, inside}
 use Rattle.prepare.specs.Preparing.{Spectra}
 use Rattle.pulse.specs.Train.{start_of}
@@ -7,7 +7,9 @@ use Rattle.history.specs.Numbers.{argument_outside}
 use Rattle.history.specs.Machine.{◌⇒◌, first_of}
 use Rattle.voice.specs.declared.Voice.{Voice}
 use Rattle.voice.specs.declared.Answered.{Answered}
+use Rattle.voice.specs.declared.answers.Refusal.{Refusal}
 use Rattle.voice.specs.Voice.{in_front}
+use Rattle.voice.specs.Answers.{number_for}
 use Rattle.refusing.specs.Refusal.{Frame, earlier}
 use Rattle.giving.specs.Pitch.{pitch_of}
 use Rattle.giving.specs.Begin.{prepared_for, increments_of}
@@ -56,10 +58,10 @@ begun_with f v (inside p) = begun f p v
 unfoldable pub given : Frame → Voice → Voice
 given f v = begun_with f v (prepared f v)
 
--- what giving answers where none of the rows 2 to 8 applies
-pub record Accepts (f : Frame) (v : Voice) (r : Answered) : Type 0 where
-  pub number : r.number ≡ first_of (is_outside (prepared f v) ⇒ argument_outside ∷ [])
-  pub voice : r.voice ≡ given f v
+-- what comes of a frame: the voice after it, or the number that refuses it
+pub record Accepts (f : Frame) (v : Voice) (r : Result Voice Refusal) : Type 0 where
+  pub number : number_for r ≡ refusal f v
+  pub voice : IfOk r (λ after. after ≡ given f v)
 
 -- by the number: what there is after a call that is done, and else as it was
 abbrev pub where_done : {A : Type 0} → ℕ → A → A → A

@@ -38,10 +38,8 @@ fn ramp(targets: &[f64], start: &[f64], fperiod: usize, increments: &mut [f64])
     requires { (length start.now ≡ length targets.now) × (length increments.old ≡ length targets.now) × (fperiod ≤ 4800) }
     ensures { increments.new ≡ increments_of fperiod targets.now start.now }
 {
-    let mut i = 0;
-    while i < increments.len() {
+    for i in 0..increments.len() {
         increments[i] = (targets[i] - start[i]) / fperiod as f64;
-        i += 1;
     }
 }
 

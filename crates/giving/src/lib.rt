@@ -4,7 +4,7 @@
 pub mod begin;
 
 ghost use Rattle.std.specs.Prelude.{◌≡◌, ◌≤◌};
-ghost use Rattle.refusing.specs.Refusal.{frame, earlier};
+ghost use Rattle.refusing.specs.Given.{frame_of};
 ghost use Rattle.giving.specs.Pitch.{pitch_of};
 ghost use Rattle.giving.specs.Give.{Accepts, Gives};
 
@@ -13,8 +13,8 @@ use configuration::Configuration;
 use elementary::answer::Prepared;
 use number::range::clamp;
 use pulse::Pitch;
-use refusing::refusal;
-use voice::answers::{ARGUMENT_OUTSIDE, DONE};
+use refusing::{Frame, refusal};
+use voice::answers::{DONE, Refusal};
 use voice::{Answered, Voice};
 
 // The pitch of a frame: unvoiced where its log F0 is the no-data number.
@@ -29,55 +29,54 @@ fn pitch(configuration: Configuration, lf0: f64) -> Pitch
     Pitch::Voiced(configuration.rate as f64 / exponential::exp(clamped))
 }
 
-// The voice after a frame that nothing but its preparing can refuse.
-fn accept(voice: Voice, lf0: f64, spectrum: &[f64], lpf: &[f64]) -> Answered
-    requires { earlier (frame lf0 spectrum.now lpf.now) voice ≡ 0 }
-    ensures { Accepts (frame lf0 spectrum.now lpf.now) voice result }
+// The voice after a frame, where no row of the table refuses it.
+pub fn accepted(voice: &Voice, frame: Frame) -> Result<Voice, Refusal>
+    ensures { Accepts (frame_of frame.entry) voice.now result }
 {
+    refusal(voice, frame)?;
     let configuration = voice.configuration;
     let nmcp = configuration.nmcp;
-    let nlpf = configuration.nlpf;
-    let mut start = voice.coefficients;
+    let mut coefficients = voice.coefficients;
     let mut targets = voice.targets;
     let mut increments = voice.increments;
     let begun = begin(
         configuration,
         voice.first,
-        spectrum,
-        &mut start[0..nmcp],
-        &mut targets[0..nmcp],
-        &mut increments[0..nmcp],
+        frame.spectrum,
+        &mut coefficients[..nmcp],
+        &mut targets[..nmcp],
+        &mut increments[..nmcp],
     );
     let Prepared::Inside = begun else {
-        return Answered {
-            number: ARGUMENT_OUTSIDE,
-            voice,
-        };
+        return Err(Refusal::ArgumentOutside);
     };
-    let mut taps = voice.lpf;
-    vectors::copy(lpf, &mut taps[0..nlpf]);
-    let pulse = voice.pulse;
-    let mut after = voice;
-    after.left = configuration.fperiod;
-    after.first = false;
-    after.pulse = pulse.start(pitch(configuration, lf0), configuration.fperiod as u64);
-    after.lpf = taps;
-    after.coefficients = start;
-    after.increments = increments;
-    after.targets = targets;
-    Answered {
-        number: DONE,
-        voice: after,
-    }
+    let mut lpf = voice.lpf;
+    lpf[..configuration.nlpf].copy_from_slice(frame.lpf);
+    let pitch = pitch(configuration, frame.lf0);
+    Ok(Voice {
+        left: configuration.fperiod,
+        first: false,
+        pulse: voice.pulse.start(pitch, configuration.fperiod as u64),
+        lpf,
+        coefficients,
+        increments,
+        targets,
+        ..*voice
+    })
 }
 
 // GIVE.
-pub fn give(voice: Voice, lf0: f64, spectrum: &[f64], lpf: &[f64]) -> Answered
-    ensures { Gives (frame lf0 spectrum.now lpf.now) voice result }
+pub fn give(voice: Voice, frame: Frame) -> Answered
+    ensures { Gives (frame_of frame.entry) voice result }
 {
-    let number = refusal(voice, lf0, spectrum, lpf);
-    if number != DONE {
-        return Answered { number, voice };
+    match accepted(&voice, frame) {
+        Ok(after) => Answered {
+            number: DONE,
+            voice: after,
+        },
+        Err(refusal) => Answered {
+            number: refusal.number(),
+            voice,
+        },
     }
-    accept(voice, lf0, spectrum, lpf)
 }

@@ -1,2 +1,3 @@
 pub mod IdleLaws
 pub mod FrontLaws
+pub mod AnswersLaws

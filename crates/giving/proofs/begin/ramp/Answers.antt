@@ -18,9 +18,6 @@ pub int_to_float-increments : goal.int_to_float-increments
 unfolding in_float
 int_to_float-increments c = le→leb c.args.fperiod (2 ^ 53) (omega arith)
 
-pub loop-i-smaller : goal.loop-i-smaller
-loop-i-smaller c = simp length-set (omega arith)
-
 pub loop-i-preserved : goal.loop-i-preserved
 loop-i-preserved c =
     let at = increment_at c.args.fperiod c.args.targets.now c.args.start.now c.loop-i.i (omega arith) c.requires.0 in

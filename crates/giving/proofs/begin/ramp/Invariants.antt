@@ -8,6 +8,3 @@ use Rattle.giving.proofs.begin.ramp.Given as goal
 
 abbrev pub invariant-loop-i : goal.invariant-loop-i
 invariant-loop-i l = (l.i ≤ length l.increments) × (length l.increments ≡ length l.targets) × (length l.initial.increments ≡ length l.targets) × (l.increments ≡ over (take l.i (increments_of l.fperiod l.targets l.start)) l.i l.initial.increments)
-
-abbrev pub decreases-loop-i : goal.decreases-loop-i
-decreases-loop-i l = length l.increments - l.i
