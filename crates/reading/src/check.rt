@@ -42,14 +42,7 @@ fn one_form(bits: u64) -> bool
 fn forms_kept(values: &[u64]) -> bool
     ensures { result ≡ every one_form values.now }
 {
-    let mut i = 0;
-    while i < values.len() {
-        if !one_form(values[i]) {
-            return false;
-        }
-        i += 1;
-    }
-    true
+    values.iter().all(|bits| one_form(*bits))
 }
 
 // Whether all floats have it.

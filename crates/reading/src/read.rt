@@ -23,10 +23,8 @@ fn read_floats(slots: &[u64], at: usize, values: &mut [f64])
     requires { at + length values.old ≤ length slots.now }
     ensures { values.new ≡ map float_of (take (length values.old) (drop at slots.now)) }
 {
-    let mut i = 0;
-    while i < values.len() {
-        values[i] = float_of(slots[at + i]);
-        i += 1;
+    for (i, value) in values.iter_mut().enumerate() {
+        *value = float_of(slots[at + i]);
     }
 }
 

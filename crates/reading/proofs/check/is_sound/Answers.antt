@@ -16,16 +16,10 @@ here c =
 pub returns-then-not-kept : goal.returns-then-not-kept
 returns-then-not-kept c = unsound_limits c.args.slots.now c.configuration_in-c.result c.configuration_in-c.ensures (sym c.kept.ensures ∙ c.if-not-kept.true)
 
-pub count_of-requires : goal.count_of-requires
-count_of-requires c = sym c.kept.ensures ∙ c.if-not-kept.false
-
 pub returns-then-count_of-slots : goal.returns-then-count_of-slots
 returns-then-count_of-slots c =
     let other : length c.args.slots.now ≡ count_of c.configuration_in-c.result → ⊥ = λ e. omega (arith, e, c.count_of.ensures, c.if-count_of-slots.true) in
     unsound_count c.args.slots.now c.configuration_in-c.result c.configuration_in-c.ensures (ne_eqb _ _ other)
-
-pub bounds-slots-3 : goal.bounds-slots-3
-bounds-slots-3 c = let f = here (goal.at.bounds-slots-3 c).Else-count_of-slots in omega (arith, f.room)
 
 pub bounds-slots-14 : goal.bounds-slots-14
 bounds-slots-14 c = let f = here (goal.at.bounds-slots-14 c).Else-count_of-slots in omega (arith, f.room)

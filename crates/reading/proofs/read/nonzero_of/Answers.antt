@@ -5,19 +5,9 @@ use Prim.Native.Nat.{◌+◌, ◌*◌, ◌≤◌}
 use native.Mathlib.Omega.{arith}
 use lib.Dec.{eqb}
 use lib.ListN.{length}
-use borrow.Author.Tests.{eq-eqb, ne_eqb}
+use borrow.Author.Tests.{ne_eqb}
 use Rattle.slots.proofs.CountLaws.{rows_most}
 use Rattle.reading.proofs.read.nonzero_of.Goals as goal
-
-pub returns-then-c-eq0 : goal.returns-then-c-eq0
-returns-then-c-eq0 c =
-    let none : c.args.c.stage ≡ 0 = omega (arith, c.if-c-eq0.true) in
-    rw (eq-eqb _ _ none) c.new.ensures
-
-pub overflow_mul-c : goal.overflow_mul-c
-overflow_mul-c c =
-    let few = rows_most c.args.c c.requires.0 in
-    record { fits = omega (arith, few) }
 
 pub nonzero_in-requires : goal.nonzero_in-requires
 nonzero_in-requires c =
@@ -25,7 +15,3 @@ nonzero_in-requires c =
     let some : eqb c.args.c.stage 0 ≡ false = ne_eqb _ _ (λ (e : c.args.c.stage ≡ 0). absurd (omega (arith, e, c.if-c-eq0.false))) in
     let room : c.args.at + c.args.c.stage * c.args.c.nmcp ≤ length c.args.slots.now = rw some at c.requires.1 in
     (few, room)
-
-pub returns : goal.returns
-returns c =
-    rw (ne_eqb _ _ (λ (e : c.args.c.stage ≡ 0). absurd (omega (arith, e, c.if-c-eq0.false)))) c.nonzero_in.ensures

@@ -6,9 +6,6 @@ use lib.ListN.{length, length-set}
 use Rattle.reading.proofs.ReadLaws.{read_turn, read_done, read_end}
 use Rattle.reading.proofs.read.read_floats.Goals as goal
 
-pub loop-i-init : goal.loop-i-init
-loop-i-init c = (omega arith, refl, c.requires, refl)
-
 pub loop-i-preserved : goal.loop-i-preserved
 loop-i-preserved c =
     let n = length c.args.values.now in

@@ -32,9 +32,6 @@ pulse_in-requires c = let f = here (goal.at.pulse_in-requires c).After-configura
 pub array_in-requires : goal.array_in-requires
 array_in-requires c = let f = here (goal.at.array_in-requires c).After-configuration_in-c in (f.nlpf, omega (arith, f.room))
 
-pub overflow_add-nlpf : goal.overflow_add-nlpf
-overflow_add-nlpf c = let f = here (goal.at.overflow_add-nlpf c).After-configuration_in-c in record { fits = omega (arith, f.nmcp, f.nlpf) }
-
 pub array_in-requires-2 : goal.array_in-requires-2
 array_in-requires-2 c = let f = here (goal.at.array_in-requires-2 c).After-configuration_in-c in (f.nlpf, omega (arith, f.room))
 

@@ -3,7 +3,7 @@ use mathlib.Core.Path.{◌≡◌}
 use Prim.Native.Nat.{◌+◌, ◌*◌, ◌≤◌}
 use native.Mathlib.Omega.{arith}
 use lib.ListN.{length}
-use borrow.Author.Tests.{eq-eqb, ne_eqb}
+use borrow.Author.Tests.{eq-eqb}
 use Rattle.configuration.proofs.LimitsLaws.{sizes}
 use Rattle.reading.proofs.read.zero_of.Goals as goal
 
@@ -13,12 +13,3 @@ zero_in-requires c =
     let most = (sizes c.args.c c.requires.0).nmcp_most in
     let room : c.args.at + (18 + 6 * c.args.c.nmcp) ≤ length c.args.slots.now = rw (eq-eqb _ _ none) at c.requires.1 in
     (most, omega (arith, room))
-
-pub returns-then-c-eq0 : goal.returns-then-c-eq0
-returns-then-c-eq0 c =
-    let none : c.args.c.stage ≡ 0 = omega (arith, c.if-c-eq0.true) in
-    rw (eq-eqb _ _ none) c.zero_in.ensures
-
-pub returns : goal.returns
-returns c =
-    rw (ne_eqb _ _ (λ (e : c.args.c.stage ≡ 0). absurd (omega (arith, e, c.if-c-eq0.false)))) c.new.ensures
