@@ -1,11 +1,13 @@
 -- Save and restore. Assumes nothing.
-use Rattle.std.specs.Prelude.{◌≡◌, Bool, ◌&&◌, cond, List, [], ◌∷◌, ℕ, zero, suc, ◌*◌, ◌/◌, ◌%◌, eqb, ltb, Float, length}
+use Rattle.std.specs.Prelude.{◌≡◌, Bool, ◌&&◌, cond, List, [], ◌∷◌, ℕ, zero, suc, ◌*◌, ◌/◌, ◌%◌, eqb, ltb, Float, length, Result, Ok, Err, Option, Some, None}
 use Rattle.number.specs.Lists.{over}
 use Rattle.history.specs.Numbers.{done, voice_idle, records_longer, records_wrong}
 use Rattle.history.specs.Machine.{◌⇒◌, first_of, Answer, answer}
 use Rattle.history.specs.History as history
 use Rattle.voice.specs.declared.Voice.{Voice}
 use Rattle.voice.specs.declared.Answered.{Answered}
+use Rattle.voice.specs.declared.answers.Refusal.{Refusal}
+use Rattle.voice.specs.Answers.{number_of}
 use Rattle.voice.specs.Voice.{idle}
 use Rattle.records.specs.Records.{encoded, values_in, in_order}
 use Rattle.slots.specs.Slots.{slots_of, count_of, voice_in}
@@ -36,6 +38,11 @@ pub record Saves (v : Voice) (out : List ℕ) (r : Saved) (after : List ℕ) : T
   pub bytes : r.bytes ≡ length (saved (length out) v).bytes
   pub buffer : after ≡ over (saved (length out) v).bytes r.bytes out
 
+-- what it answers for so many bytes that were written, or for a refusal
+abbrev pub saved_by : Result ℕ Refusal → Saved
+saved_by (Ok bytes) = record { number = done; bytes = bytes }
+saved_by (Err refusal) = record { number = number_of refusal; bytes = 0 }
+
 -- ---- RESTORE
 
 -- how many records, and their values
@@ -57,3 +64,12 @@ restored bytes v = cond (accepted bytes) (answer done [] (voice_in (slots_in byt
 pub record Restores (bytes : List ℕ) (v : Voice) (r : Answered) : Type 0 where
   pub number : r.number ≡ (restored bytes v).number
   pub voice : r.voice ≡ (restored bytes v).state
+
+-- what it answers for a voice that was read, or for none, into the voice v
+abbrev pub restored_by : Voice → Option Voice → Answered
+restored_by v (Some w) = record { number = done; voice = w }
+restored_by v None = record { number = records_wrong; voice = v }
+
+-- WHAT COMES OF READING the bytes, whatever the voice that was handed in
+abbrev pub Reads : List ℕ → Option Voice → Type 0
+Reads bytes r = (v : Voice) → Restores bytes v (restored_by v r)

@@ -5,15 +5,15 @@ ghost use Rattle.std.specs.Prelude.{true, ◌≡◌, ◌*◌, ◌≤◌, length}
 ghost use Rattle.number.specs.Lists.{over};
 ghost use Rattle.configuration.specs.Limits.{limits_kept};
 ghost use Rattle.slots.specs.Slots.{count_of};
-ghost use Rattle.rest.specs.Rest.{records_of, Saves, Restores};
+ghost use Rattle.rest.specs.Rest.{records_of, saved_by, Saves, Restores, Reads};
 
 use reading::check::is_sound;
 use reading::read::voice_in;
 use records::{RECORD, decode, encode};
 use slots::gather::gather;
 use slots::{CONFIGURATION_SLOTS, MOST_SLOTS, count_of};
-use voice::answers::{DONE, RECORDS_LONGER, RECORDS_WRONG, VOICE_IDLE};
-use voice::{Answered, Voice, usable};
+use voice::answers::{DONE, Refusal};
+use voice::{Answered, Voice};
 
 // What save answers: a number of the table, and how many bytes were written.
 #[repr(C)]
@@ -32,78 +32,80 @@ fn write_records(voice: Voice, slots: &mut [u64], out: &mut [u8])
     encode(slots, out);
 }
 
-// SAVE: the records from the front of the buffer.
+// Writes the records from the front of the buffer, and answers how many bytes they are.
+fn written(voice: Voice, out: &mut [u8]) -> Result<usize, Refusal>
+    ensures { Saves voice out.old (saved_by result) out.new }
+{
+    if !voice.is_usable() {
+        return Err(Refusal::VoiceIdle);
+    }
+    let count = count_of(voice.configuration);
+    if out.len() < RECORD * count {
+        return Err(Refusal::RecordsLonger);
+    }
+    let mut slots = [0; MOST_SLOTS];
+    write_records(voice, &mut slots[..count], out);
+    Ok(RECORD * count)
+}
+
+// SAVE.
 pub fn save(voice: Voice, out: &mut [u8]) -> Saved
     ensures { Saves voice out.old result out.new }
 {
-    let configuration = voice.configuration;
-    let random = voice.random;
-    if !usable(
-        configuration,
-        voice.meter,
-        voice.left,
-        voice.first,
-        random.used,
-    ) {
-        return Saved {
-            number: VOICE_IDLE,
+    match written(voice, out) {
+        Ok(bytes) => Saved {
+            number: DONE,
+            bytes,
+        },
+        Err(refusal) => Saved {
+            number: refusal.number(),
             bytes: 0,
-        };
-    }
-    let count = count_of(configuration);
-    if out.len() < RECORD * count {
-        return Saved {
-            number: RECORDS_LONGER,
-            bytes: 0,
-        };
-    }
-    let mut slots = [0; 917];
-    write_records(voice, &mut slots[0..count], out);
-    Saved {
-        number: DONE,
-        bytes: RECORD * count,
+        },
     }
 }
 
-// A refused restore: the voice that was handed in.
-fn refused(voice: Voice) -> Answered
-    ensures { (result.number ≡ 13) × (result.voice ≡ voice) }
-{
-    Answered {
-        number: RECORDS_WRONG,
-        voice,
-    }
-}
-
-// The voice in the records, where they are acceptable.
-fn read_records(voice: Voice, bytes: &[u8], slots: &mut [u64]) -> Answered
+// The voice in the records, where the slots in them are in order and sound.
+fn read_records(bytes: &[u8], slots: &mut [u64]) -> Option<Voice>
     requires { (length bytes.now ≡ 16 * length slots.old) × (12 ≤ length slots.old) }
-    ensures { Restores bytes.now voice result }
+    ensures { Reads bytes.now result }
 {
     let ordered = decode(bytes, slots);
     if !(ordered & is_sound(slots)) {
-        return refused(voice);
+        return None;
     }
-    Answered {
-        number: DONE,
-        voice: voice_in(slots),
-    }
+    Some(voice_in(slots))
 }
 
-// RESTORE: into any voice.
-pub fn restore(voice: Voice, bytes: &[u8]) -> Answered
-    ensures { Restores bytes.now voice result }
+// The voice in the records, where they are acceptable.
+fn read(bytes: &[u8]) -> Option<Voice>
+    ensures { Reads bytes.now result }
 {
     let count = bytes.len() / RECORD;
     if bytes.len() % RECORD != 0 {
-        return refused(voice);
+        return None;
     }
     if count < CONFIGURATION_SLOTS {
-        return refused(voice);
+        return None;
     }
     if count > MOST_SLOTS {
-        return refused(voice);
+        return None;
     }
-    let mut slots = [0; 917];
-    read_records(voice, bytes, &mut slots[0..count])
+    let mut slots = [0; MOST_SLOTS];
+    read_records(bytes, &mut slots[..count])
+}
+
+// RESTORE: into any voice, which a refused one hands back.
+pub fn restore(voice: Voice, bytes: &[u8]) -> Answered
+    ensures { Restores bytes.now voice result }
+{
+    match read(bytes) {
+        Some(restored) => Answered {
+            number: DONE,
+            voice: restored,
+        },
+        None => Answered {
+            number: Refusal::RecordsWrong.number(),
+            voice,
+        },
+    }
 }
