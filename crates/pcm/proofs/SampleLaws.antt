@@ -12,6 +12,7 @@ use lib.Ieee.{Float, nan, inf, fin, binary64, up, down, level, lt, le, eq, is_na
 use lib.Ieee.Fits.{down_pos}
 use lib.Ieee.Nearest.{closest}
 use borrow.Author.Tests.{lt-ltb, le-ltb, le-leb, lt-leb, ltb-true, ltb-false, eqb-true, eqb-false, ne_eqb}
+use Rattle.std.specs.Float.{float_clamp, ◌≤ᶠ◌}
 use Rattle.number.specs.F64.{0f, ◌⊗◌}
 use Rattle.pcm.specs.Sample.{rounded_to, is_past, is_held, twos_complement, word_of, scaled, signed, limit, lowest, highest, low_end, high_end, Limits, Ends}
 use Rattle.pcm.proofs.NearestLaws.{closest_only, closest_at_most, closest_at_least, from_half, to_half, up_to_half, under_half}
@@ -19,15 +20,12 @@ use Rattle.pcm.proofs.RoundLaws.{sum_bits, low_bits}
 
 -- ---- held to the limits
 
--- what the code makes of x: 0 for the NaN, then the larger of it and the lowest number, then the smaller of that and the highest
-abbrev pub from_low : ℕ → Float → Float
-from_low h y = cond (lt y (lowest h)) (lowest h) y
-
-abbrev pub to_high : ℕ → Float → Float
-to_high h y = cond (lt (highest h) y) (highest h) y
+-- what the code makes of x: 0 for the NaN, and what is past a limit is the limit
+abbrev pub clamped : ℕ → Float → Float
+clamped h y = float_clamp y (lowest h) (highest h)
 
 abbrev pub kept : ℕ → Float → Float
-kept h x = to_high h (from_low h (cond (is_nan x) 0f x))
+kept h x = clamped h (cond (is_nan x) 0f x)
 
 -- y is a number within the limits, and rounds to the number of x
 pub record Kept (h : ℕ) (x y : Float) : Type 0 where
@@ -67,7 +65,7 @@ module _ (h : ℕ) where
   from_above m e true c = at_highest (fin false m e) (outside false m e (omega (arith, ltb-true ((2 ^ h - 1) * 1 * down e) (m * up e * 1) c)))
   from_above m e false c = inside false m e (omega (arith, ltb-false ((2 ^ h - 1) * 1 * down e) (m * up e * 1) c))
 
-  from_below : (m : ℕ) (e : ℤ) (t : Bool) → ltb (1 * 2 ^ h * down e) (m * up e * 1) ≡ t → Kept h (fin true m e) (to_high h (cond t (lowest h) (fin true m e)))
+  from_below : (m : ℕ) (e : ℤ) (t : Bool) → ltb (1 * 2 ^ h * down e) (m * up e * 1) ≡ t → Kept h (fin true m e) (cond t (lowest h) (cond (lt (highest h) (fin true m e)) (highest h) (fin true m e)))
   unfolding lt
   from_below m e true c = at_lowest (fin true m e) (outside true m e (omega (arith, ltb-true (1 * 2 ^ h * down e) (m * up e * 1) c)))
   from_below m e false c = inside true m e (omega (arith, ltb-false (1 * 2 ^ h * down e) (m * up e * 1) c))
@@ -110,13 +108,18 @@ module _ (h : ℕ) (upto : h ≤ 50) (x : Float) where
   pub word_bits : T (not (is_nan (add binary64 (kept h x) magic))) × (to_bits binary64 (add binary64 (kept h x) magic) % 2 ^ suc h ≡ twos_complement (suc h) (rounded_to h x))
   word_bits = bits_of_kept (kept h x) (kept_is h x)
 
--- the steps of the code: a is x times the factor, or 0, b the larger of a and low, r the smaller of b and high
-pub word_of_lem : (x factor low high a b r : Float) (h : ℕ) → Limits factor low high h → a ≡ cond (is_nan (x ⊗ factor)) 0f (x ⊗ factor) → b ≡ cond (lt a low) low a → r ≡ cond (lt high b) high b
+-- the steps of the code: a is x times the factor, or 0, and r is a within low and high
+pub word_of_lem : (x factor low high a r : Float) (h : ℕ) → Limits factor low high h → a ≡ cond (is_nan (x ⊗ factor)) 0f (x ⊗ factor) → r ≡ float_clamp a low high
     → T (not (is_nan (add binary64 r magic))) × (to_bits binary64 (add binary64 r magic) % 2 ^ suc h ≡ word_of (suc h) x)
-word_of_lem x factor low high a b r h l ea eb er =
-    let e : r ≡ kept h (scaled (suc h) x) = rw (er, eb, ea, l.scaling, l.bottom, l.top) refl in
+word_of_lem x factor low high a r h l ea er =
+    let e : r ≡ kept h (scaled (suc h) x) = rw (er, ea, l.scaling, l.bottom, l.top) refl in
     let below : suc h - 1 ≡ h = omega arith in
     rw (e, below) (word_bits h l.upto (scaled (suc h) x))
+
+-- the limits are in order
+pub limits_ordered : (factor low high : Float) (h : ℕ) → Limits factor low high h → low ≤ᶠ high
+unfolding le lt eq
+limits_ordered factor low high h l = let p = pow_pos h in rw (l.bottom, l.top, lt-ltb 0 (1 * 2 ^ h * 1 + (2 ^ h - 1) * 1 * 1) (omega arith)) tt
 
 -- ---- held back
 

@@ -2,17 +2,19 @@
 use mathlib.Core.Path.{◌≡◌, refl, sym, ap, ◌∙◌}
 use mathlib.Core.Bool.{Bool, true, false, cond}
 use mathlib.Core.List.{List, [], ◌∷◌, ◌++◌, append_assoc}
-use Prim.Native.Nat.{ℕ, suc, ◌+◌, ◌*◌, ◌/◌, ◌%◌, ◌≤◌, ◌<◌}
-use native.Mathlib.Nat.{mul-zero, add-mul-mod_self_left}
-use native.Mathlib.Numerals.{add-one}
+use Prim.Native.Nat.{ℕ, zero, suc, ◌+◌, ◌*◌, ◌/◌, ◌%◌, ◌^◌, ◌≤◌, ◌<◌}
+use native.Mathlib.Nat.{mul-zero, mul-le-mul_left}
+use Rattle.std.specs.Int.{w64, from_bool, byte_at, bytes_low_first, to_le_bytes}
+use Rattle.std.proofs.Math.Nat.{div-one, div-div-eq-div-mul, pow-suc}
+use Rattle.std.proofs.lemmas.Nat.{mod-pow-add}
 use native.Mathlib.Omega.{arith}
-use lib.ListN.{length, drop, set, length-append}
+use lib.ListN.{length, drop, take, length-append}
 use lib.Seq.{sets, length-sets}
 use lib.Ieee.{Float, nan}
 use Rattle.number.specs.F64.{◌‼◌}
 use Rattle.number.specs.Bytes.{bytes_of}
 use Rattle.number.proofs.ByteLaws.{length_bytes}
-use Rattle.number.proofs.Lists.{left_next, left_none, sets_append, sets_all}
+use Rattle.number.proofs.Lists.{left_next, left_none, put_row, sets_append, sets_all, put_row_sets}
 use Rattle.pcm.specs.Samples.{bytes_of_all, count}
 
 -- ---- parts join
@@ -83,24 +85,43 @@ module _ (k : ℕ) (f : Float → ℕ) (t : Float → Bool) (samples : List Floa
         let c : held + 0 ≡ count t samples = rw (left_none samples i h) at m.counted in
         (omega arith, rw (left_none samples i h) at m.stored)
 
--- ---- the bytes that the code stores, by a word w whose lowest bits are the number v
+pub room_for : (k i n : ℕ) {room : ℕ} → i < n → room ≡ k * n → k * i + k ≤ room
+room_for k i n h e = omega (arith, e, let more : i + 1 ≤ n = omega arith in mul-le-mul_left k more)
 
-same_byte : (x y z : ℕ) → x ≡ y + 256 * z → y % 256 ≡ x % 256
-same_byte x y z e = sym (ap (λ (n : ℕ). n % 256) e ∙ add-mul-mod_self_left y 256 z)
+pub from_bool_is : (b : Bool) → from_bool b ≡ cond b 1 0
+from_bool_is true = refl
+from_bool_is false = refl
 
-module _ (out : List ℕ) (j w v : ℕ) where
-  pub two_stored : w % 65536 ≡ v → set (set out j (w % 256)) (j + 1) (w / 256 % 256) ≡ sets out j (bytes_of 2 v)
-  unfolding bytes_of
-  two_stored e =
-      let a = same_byte w v (256 * (w / 65536)) (omega arith) in
-      let b = same_byte (w / 256) (v / 256) (w / 65536) (omega arith) in
-      rw (a, b, add-one j) refl
+-- ---- the bytes that the code stores: the k lowest of a word w whose lowest bits are the number v
 
-  pub three_stored : w % 16777216 ≡ v → set (set (set out j (w % 256)) (j + 1) (w / 256 % 256)) (j + 2) (w / 65536 % 256) ≡ sets out j (bytes_of 3 v)
-  unfolding bytes_of
-  three_stored e =
-      let a = same_byte w v (65536 * (w / 16777216)) (omega arith) in
-      let b = same_byte (w / 256) (v / 256) (256 * (w / 16777216)) (omega arith) in
-      let c = same_byte (w / 65536) (v / 256 / 256) (w / 16777216) (omega arith) in
-      let on : j + 2 ≡ suc (suc j) = omega arith in
-      rw (a, b, c, add-one j, on) refl
+same_bytes : (k w v : ℕ) → w % 2 ^ (8 * k) ≡ v → bytes_of k w ≡ bytes_of k v
+unfolding bytes_of
+same_bytes zero w v e = refl
+same_bytes (suc k) w v e =
+    let on : 8 * suc k ≡ 8 * k + 8 = omega arith in
+    let parts : v ≡ w / 2 ^ 8 % 2 ^ (8 * k) * 2 ^ 8 + w % 2 ^ 8 = sym e ∙ ap (λ (z : ℕ). w % 2 ^ z) on ∙ mod-pow-add w (8 * k) 8 in
+    let low : w % 256 ≡ v % 256 = omega (arith, parts) in
+    let high : w / 256 % 2 ^ (8 * k) ≡ v / 256 = omega (arith, parts) in
+    rw (low, same_bytes k (w / 256) (v / 256) high) refl
+
+byte_is : (i n : ℕ) → byte_at i n ≡ n / 256 ^ i % 256
+byte_is zero n = ap (λ (z : ℕ). z % 256) (sym (div-one n))
+byte_is (suc i) n = refl
+
+low_bytes : (k i n : ℕ) → bytes_low_first i k n ≡ bytes_of k (n / 256 ^ i)
+unfolding bytes_of
+low_bytes zero i n = refl
+low_bytes (suc k) i n =
+    let next : n / 256 ^ suc i ≡ n / 256 ^ i / 256 = ap (λ (z : ℕ). n / z) (pow-suc 256 i) ∙ sym (div-div-eq-div-mul n (256 ^ i) 256) in
+    rw (byte_is i n, low_bytes k (suc i) n, next) refl
+
+take_low : (k m i n : ℕ) → k ≤ m → take k (bytes_low_first i m n) ≡ bytes_low_first i k n
+take_low zero m i n h = refl
+take_low (suc k) zero i n h = absurd (omega arith)
+take_low (suc k) (suc m) i n h = ap (λ (l : List ℕ). byte_at i n ∷ l) (take_low k m (suc i) n (omega arith))
+
+pub word_stored : (out bytes made : List ℕ) (j k w v : ℕ) → k ≤ 8 → j + k ≤ length out → w % 2 ^ (8 * k) ≡ v → bytes ≡ to_le_bytes w64 w → made ≡ take k bytes
+    → put_row j (j + k) made out ≡ sets out j (bytes_of k v)
+word_stored out bytes made j k w v few room e b m =
+    let low : made ≡ bytes_of k v = m ∙ ap (take k) b ∙ take_low k 8 0 w few ∙ low_bytes k 0 w ∙ ap (bytes_of k) (div-one w) ∙ same_bytes k w v e in
+    ap (λ (l : List ℕ). put_row j (j + k) l out) low ∙ put_row_sets out (bytes_of k v) j k (length_bytes k v) room

@@ -5,6 +5,8 @@ ghost use Rattle.number.specs.Bytes.{bytes_of};
 ghost use Rattle.pcm.specs.Samples.{count};
 ghost use Rattle.riff.specs.Writing.{bytes_of_words, bytes_in, held_in, asked_of, header_of, sound_of, pad_of, file_of, refusal_of, refused, header_answer, part_answer, pad_answer, file_answer, Writes};
 
+use pcm::{Bits16, Bits24};
+
 // The bits of a sample.
 #[derive(Clone, Copy)]
 pub enum Width {
@@ -136,11 +138,11 @@ fn put_samples(out: &mut [u8], at: usize, width: Width, samples: &[f64]) -> usiz
     match width {
         Width::Sixteen => {
             let end = at + 2 * samples.len();
-            pcm::put_16(&mut out[at..end], samples)
+            pcm::put::<Bits16>(&mut out[at..end], samples)
         }
         Width::TwentyFour => {
             let end = at + 3 * samples.len();
-            pcm::put_24(&mut out[at..end], samples)
+            pcm::put::<Bits24>(&mut out[at..end], samples)
         }
     }
 }

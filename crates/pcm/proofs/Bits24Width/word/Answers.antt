@@ -1,8 +1,8 @@
--- `word_24`: `word` with the limits of its width. Assumes nothing.
+-- `word` of `Bits24`: `word` with the limits of its width. Assumes nothing.
 use mathlib.Core.Path.{refl}
 use lib.Dec.{lit≤}
 use lib.Ieee.{of_bits, neg}
-use Rattle.pcm.proofs.word_24.Goals as goal
+use Rattle.pcm.proofs.Bits24Width.word.Goals as goal
 
 pub word-requires : goal.word-requires
 unfolding of_bits neg

@@ -1,8 +1,8 @@
--- `held_24`: `is_held` with the ends of its width. Assumes nothing.
+-- `is_held` of `Bits24`: `is_held` with the ends of its width. Assumes nothing.
 use mathlib.Core.Path.{refl}
 use lib.Dec.{lit≤}
 use lib.Ieee.{of_bits, neg}
-use Rattle.pcm.proofs.held_24.Goals as goal
+use Rattle.pcm.proofs.Bits24Width.is_held.Goals as goal
 
 pub returns : goal.returns
 unfolding of_bits neg

@@ -1,8 +1,8 @@
--- `held_16`: `is_held` with the ends of its width. Assumes nothing.
+-- `is_held` of `Bits16`: `is_held` with the ends of its width. Assumes nothing.
 use mathlib.Core.Path.{refl}
 use lib.Dec.{lit≤}
 use lib.Ieee.{of_bits, neg}
-use Rattle.pcm.proofs.held_16.Goals as goal
+use Rattle.pcm.proofs.Bits16Width.is_held.Goals as goal
 
 pub returns : goal.returns
 unfolding of_bits neg

@@ -1,8 +1,8 @@
--- `word_16`: `word` with the limits of its width. Assumes nothing.
+-- `word` of `Bits16`: `word` with the limits of its width. Assumes nothing.
 use mathlib.Core.Path.{refl}
 use lib.Dec.{lit≤}
 use lib.Ieee.{of_bits, neg}
-use Rattle.pcm.proofs.word_16.Goals as goal
+use Rattle.pcm.proofs.Bits16Width.word.Goals as goal
 
 pub word-requires : goal.word-requires
 unfolding of_bits neg
