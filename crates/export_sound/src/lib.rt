@@ -7,7 +7,8 @@ ghost use Rattle.riff.specs.Reading.{chunks_of, Hears};
 ghost use Rattle.export_sound.specs.Sound.{answer_by, bytes_by};
 
 use riff::reading::Heard;
-use riff::writing::{Asked, Written, refused_by, width_of};
+use riff::refusal::Refusal;
+use riff::writing::{Written, width_of};
 
 #[unsafe(no_mangle)]
 pub extern "C" fn kipawnore_write_sound(
@@ -18,9 +19,8 @@ pub extern "C" fn kipawnore_write_sound(
 ) -> Written
     ensures { Writes (answer_by (asked_of bits) (λ w. file_answer w rate samples.now (length out.old))) (bytes_by (asked_of bits) (λ w. file_of w rate samples.now)) out.old result out.new }
 {
-    let asked = width_of(bits);
-    let Asked::For(width) = asked else {
-        return refused_by(1);
+    let Some(width) = width_of(bits) else {
+        return Written::from(Refusal::LimitBroken);
     };
     riff::writing::file(width, rate, samples, out)
 }
@@ -34,9 +34,8 @@ pub extern "C" fn kipawnore_sound_header(
 ) -> Written
     ensures { Writes (answer_by (asked_of bits) (λ w. header_answer w rate count (length out.old))) (bytes_by (asked_of bits) (λ w. header_of w rate count)) out.old result out.new }
 {
-    let asked = width_of(bits);
-    let Asked::For(width) = asked else {
-        return refused_by(1);
+    let Some(width) = width_of(bits) else {
+        return Written::from(Refusal::LimitBroken);
     };
     riff::writing::header(width, rate, count, out)
 }
@@ -45,9 +44,8 @@ pub extern "C" fn kipawnore_sound_header(
 pub extern "C" fn kipawnore_sound_part(bits: u64, samples: &[f64], out: &mut [u8]) -> Written
     ensures { Writes (answer_by (asked_of bits) (λ w. part_answer w samples.now (length out.old))) (bytes_by (asked_of bits) (λ w. sound_of w samples.now)) out.old result out.new }
 {
-    let asked = width_of(bits);
-    let Asked::For(width) = asked else {
-        return refused_by(1);
+    let Some(width) = width_of(bits) else {
+        return Written::from(Refusal::LimitBroken);
     };
     riff::writing::part(width, samples, out)
 }
@@ -56,9 +54,8 @@ pub extern "C" fn kipawnore_sound_part(bits: u64, samples: &[f64], out: &mut [u8
 pub extern "C" fn kipawnore_sound_pad(bits: u64, count: usize, out: &mut [u8]) -> Written
     ensures { Writes (answer_by (asked_of bits) (λ w. pad_answer w count (length out.old))) (bytes_by (asked_of bits) (λ w. pad_of (bytes_in w * count))) out.old result out.new }
 {
-    let asked = width_of(bits);
-    let Asked::For(width) = asked else {
-        return refused_by(1);
+    let Some(width) = width_of(bits) else {
+        return Written::from(Refusal::LimitBroken);
     };
     riff::writing::pad(width, count, out)
 }

@@ -115,6 +115,10 @@ low_bytes (suc k) i n =
     let next : n / 256 ^ suc i ≡ n / 256 ^ i / 256 = ap (λ (z : ℕ). n / z) (pow-suc 256 i) ∙ sym (div-div-eq-div-mul n (256 ^ i) 256) in
     rw (byte_is i n, low_bytes k (suc i) n, next) refl
 
+-- the k lowest bytes of n, as `to_le_bytes` has them
+pub le_bytes : (k n : ℕ) → bytes_low_first 0 k n ≡ bytes_of k n
+le_bytes k n = low_bytes k 0 n ∙ ap (bytes_of k) (div-one n)
+
 take_low : (k m i n : ℕ) → k ≤ m → take k (bytes_low_first i m n) ≡ bytes_low_first i k n
 take_low zero m i n h = refl
 take_low (suc k) zero i n h = absurd (omega arith)
@@ -123,5 +127,5 @@ take_low (suc k) (suc m) i n h = ap (λ (l : List ℕ). byte_at i n ∷ l) (take
 pub word_stored : (out bytes made : List ℕ) (j k w v : ℕ) → k ≤ 8 → j + k ≤ length out → w % 2 ^ (8 * k) ≡ v → bytes ≡ to_le_bytes w64 w → made ≡ take k bytes
     → put_row j (j + k) made out ≡ sets out j (bytes_of k v)
 word_stored out bytes made j k w v few room e b m =
-    let low : made ≡ bytes_of k v = m ∙ ap (take k) b ∙ take_low k 8 0 w few ∙ low_bytes k 0 w ∙ ap (bytes_of k) (div-one w) ∙ same_bytes k w v e in
+    let low : made ≡ bytes_of k v = m ∙ ap (take k) b ∙ take_low k 8 0 w few ∙ le_bytes k w ∙ same_bytes k w v e in
     ap (λ (l : List ℕ). put_row j (j + k) l out) low ∙ put_row_sets out (bytes_of k v) j k (length_bytes k v) room

@@ -5,7 +5,7 @@ use mathlib.Core.List.{List, [], ◌∷◌, ◌++◌, append_assoc}
 use Prim.Native.Nat.{ℕ, zero, suc, ◌+◌, ◌-◌, ◌*◌, ◌/◌, ◌%◌, ◌^◌, ◌≤◌, ◌<◌, min}
 use native.Mathlib.Nat.{mod-eq_of_lt, pow-succ', min-le_right}
 use native.Mathlib.Omega.{arith}
-use lib.Dec.{eqb}
+use Rattle.std.specs.Prelude.{Some, None, Ok}
 use lib.IntN.{ℤ}
 use lib.Pow.{pow_pos}
 use lib.ListN.{length, length-append}
@@ -21,11 +21,8 @@ use Rattle.pcm.proofs.SamplesLaws.{bytes_join, count_join, length_bytes_of}
 use Rattle.riff.specs.declared.writing.Width.{Width}
 use Rattle.riff.specs.declared.writing.Width.TheVariants.{Sixteen, TwentyFour}
 use Rattle.riff.specs.declared.reading.Cursor.{Cursor}
-use Rattle.riff.specs.declared.reading.Step.TheVariants.{More, End}
-use Rattle.riff.specs.declared.reading.Sound.TheVariants.{Found}
-use Rattle.riff.specs.declared.reading.Ends.TheVariants.{At}
 use Rattle.riff.specs.Writing.{bytes_in, word_in, held_in, padded, header_of, sound_of, pad_of, file_of, refusal_of}
-use Rattle.riff.specs.Reading.{field, block_of, is_pcm, format_of, sampled_of, step_of, on, walk_of, first, end_of, walk_to, chunks_of, signed_of, numbers_in, numbers_of, samples_in}
+use Rattle.riff.specs.Reading.{field, block_of, is_pcm, format_of, sampled_of, chunk_of, walk_of, first, end_of, walk_to, chunks_of, signed_of, numbers_in, numbers_of, samples_in}
 use Rattle.riff.specs.Trip.{number_in, numbers_for, found_in, joined, sound_of_parts, held_in_parts, file_of_parts}
 use Rattle.riff.proofs.WritingLaws.{length_header, length_zeros, size_says}
 
@@ -144,11 +141,11 @@ module _ (width : Width) (rate n : ℕ) (tail : List ℕ) (small : 36 + padded (
   unfolding s header_of bytes_of number_of
   tag_sound = refl
 
-  block_there : block_of s 20 16 ≡ bytes_in width
+  block_there : block_of s 20 16 ≡ Some width
   unfolding s header_of bytes_of number_of block_of is_pcm
   block_there = go width
     where
-      go : (width : Width) → block_of (header_of width rate n ++ tail) 20 16 ≡ bytes_in width
+      go : (width : Width) → block_of (header_of width rate n ++ tail) 20 16 ≡ Some width
       go Sixteen = refl
       go TwentyFour = refl
 
@@ -161,30 +158,23 @@ module _ (width : Width) (rate n : ℕ) (tail : List ℕ) (small : 36 + padded (
   end_is = refl
 
   -- the file's end
-  end_there : padded (bytes_in width * n) ≤ length tail → end_of s ≡ At end
+  end_there : padded (bytes_in width * n) ≤ length tail → end_of s ≡ Ok end
   unfolding end_of
   end_there r =
       let e : 8 + (36 + padded (bytes_in width * n)) ≡ end = omega (arith, end_is) in
       let l = length_there in
       rw (le-ltb (length s) 12 (omega arith), tag_riff, tag_wave, field_size, le-ltb (36 + padded (bytes_in width * n)) 4 (omega arith), le-ltb (length s - 8) (36 + padded (bytes_in width * n)) (omega arith))
-      (ap At e)
+      (ap Ok e)
 
   -- the format chunk
   formatted : Cursor
-  formatted = record { at = 36; block = bytes_in width; rate = rate; start = 0; bytes = 0 }
+  formatted = record { at = 36; format = Some (record { width = width; rate = rate }); place = None }
 
-  some_block : eqb (bytes_in width) 0 ≡ false
-  some_block = go width
-    where
-      go : (width : Width) → eqb (bytes_in width) 0 ≡ false
-      go Sixteen = refl
-      go TwentyFour = refl
-
-  at_format : step_of s end first ≡ More formatted
-  unfolding step_of format_of formatted
+  at_format : chunk_of s end first ≡ Ok formatted
+  unfolding chunk_of format_of formatted
   at_format =
       let e = end_is in
-      rw (lt-leb end 12 (omega arith), le-ltb (end - 12) 8 (omega arith), tag_format, format_size, le-ltb (end - 12 - 8) 16 (omega arith), block_there, some_block, field_rate) refl
+      rw (le-ltb (end - 12) 8 (omega arith), tag_format, format_size, le-ltb (end - 12 - 8) 16 (omega arith), block_there, field_rate) refl
 
   -- the chunk of the samples
   whole_number : bytes_in width * n % bytes_in width ≡ 0
@@ -194,42 +184,37 @@ module _ (width : Width) (rate n : ℕ) (tail : List ℕ) (small : 36 + padded (
       go Sixteen = omega arith
       go TwentyFour = omega arith
 
-  at_sound : step_of s end formatted ≡ More (found_in width rate n)
-  unfolding step_of sampled_of formatted
+  -- the cursor behind them, at the end
+  sounded : Cursor
+  sounded = record { at = 44 + padded (bytes_in width * n); format = Some (record { width = width; rate = rate }); place = Some (record { start = 44; bytes = bytes_in width * n }) }
+
+  at_sound : chunk_of s end formatted ≡ Ok sounded
+  unfolding chunk_of sampled_of formatted sounded
   at_sound =
       let e = end_is in
-      rw (lt-leb end 36 (omega arith), le-ltb (end - 36) 8 (omega arith), tag_sound, field_sound, some_block, whole_number, le-ltb (end - 36 - 8) (bytes_in width * n) (omega arith)) refl
+      rw (le-ltb (end - 36) 8 (omega arith), tag_sound, field_sound, whole_number, le-ltb (end - 36 - 8) (bytes_in width * n) (omega arith)) refl
 
-  at_end : step_of s end (found_in width rate n) ≡ End (found_in width rate n)
-  unfolding step_of
-  at_end = rw (le-leb end (44 + padded (bytes_in width * n)) (omega (arith, end_is))) refl
-
-  known : on (walk_of 0 s end) (End (found_in width rate n)) ≡ Found (found_in width rate n)
-  known = go width
-    where
-      go : (w : Width) → on (walk_of 0 s end) (End (found_in w rate n)) ≡ Found (found_in w rate n)
-      go Sixteen = refl
-      go TwentyFour = refl
-
-  walked : (m : ℕ) → 3 ≤ m → walk_of m s end first ≡ Found (found_in width rate n)
-  unfolding walk_of
+  walked : (m : ℕ) → 3 ≤ m → walk_of m s end first ≡ Ok (found_in width rate n)
+  unfolding walk_of formatted sounded
   walked zero h = absurd (omega arith)
   walked (suc zero) h = absurd (omega arith)
   walked (suc (suc zero)) h = absurd (omega arith)
-  walked (suc (suc (suc m))) h = rw (at_format, at_sound, at_end) known
+  walked (suc (suc (suc m))) h =
+      let e = end_is in
+      rw (lt-leb end 12 (omega arith), at_format, lt-leb end 36 (omega arith), at_sound, le-leb end (44 + padded (bytes_in width * n)) (omega arith)) refl
 
-  pub chunks_there : padded (bytes_in width * n) ≤ length tail → chunks_of (header_of width rate n ++ tail) ≡ Found (found_in width rate n)
+  pub chunks_there : padded (bytes_in width * n) ≤ length tail → chunks_of (header_of width rate n ++ tail) ≡ Ok (found_in width rate n)
   unfolding s
   chunks_there r = ap (walk_to s) (end_there r) ∙ walked (length s) (omega (arith, length_there))
 
 -- ---- the trip: whatever follows the file in the buffer, its samples are found, as many as were written, and their numbers are those of the samples
 
-module _ (width : Width) (rate : ℕ) (samples : List Float) (after : List ℕ) (fits : 0 ≡ refusal_of width rate (length samples)) where
+module _ (width : Width) (rate : ℕ) (samples : List Float) (after : List ℕ) (fits : Ok tt ≡ refusal_of width rate (length samples)) where
   apart : file_of width rate samples ++ after ≡ header_of width rate (length samples) ++ (sound_of width samples ++ (pad_of (bytes_in width * length samples) ++ after))
   unfolding file_of
   apart = simp append_assoc
 
-  pub trip_chunks : chunks_of (file_of width rate samples ++ after) ≡ Found (found_in width rate (length samples))
+  pub trip_chunks : chunks_of (file_of width rate samples ++ after) ≡ Ok (found_in width rate (length samples))
   trip_chunks =
       let size = size_says width rate (length samples) fits in
       ap chunks_of apart

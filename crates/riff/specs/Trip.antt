@@ -3,7 +3,7 @@ use Rattle.std.specs.Prelude.{List, [], ◌∷◌, ◌++◌, ℕ, ◌+◌, ◌*�
 use Rattle.pcm.specs.Sample.{number_of}
 use Rattle.pcm.specs.Samples.{count}
 use Rattle.riff.specs.declared.writing.Width.{Width}
-use Rattle.riff.specs.declared.reading.Cursor.{Cursor}
+use Rattle.riff.specs.declared.reading.Found.{Found}
 use Rattle.riff.specs.Writing.{bytes_in, bits_in, held_in, padded, header_of, sound_of, pad_of}
 
 -- the whole number of a sample, and of each
@@ -15,8 +15,8 @@ numbers_for width [] = []
 numbers_for width (x ∷ l) = number_in width x ∷ numbers_for width l
 
 -- where the reader stands at the end of a file of n samples, and what it has found
-abbrev pub found_in : Width → ℕ → ℕ → Cursor
-found_in width rate n = record { at = 44 + padded (bytes_in width * n); block = bytes_in width; rate = rate; start = 44; bytes = bytes_in width * n }
+abbrev pub found_in : Width → ℕ → ℕ → Found
+found_in width rate n = record { at = 44 + padded (bytes_in width * n); format = record { width = width; rate = rate }; place = record { start = 44; bytes = bytes_in width * n } }
 
 -- parts of the samples, one after the other: all of them, their bytes, and how many are held back
 unfoldable pub joined : List (List Float) → List Float

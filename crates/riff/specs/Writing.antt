@@ -1,6 +1,6 @@
 -- A sound file, byte by byte, and what writing one answers. Document 02, L4: "RIFF WAVE, PCM, one channel, 16 bits"; "the 24-bit form"; "lengths that don't fit the 32-bit size
 -- fields are refused before any byte"; "22 too long, 23 buffer short; 22 before 23 in writing". Assumes nothing.
-use Rattle.std.specs.Prelude.{◌≡◌, refl, Bool, false, ◌||◌, cond, List, [], ◌∷◌, ◌++◌, ℕ, zero, suc, ◌+◌, ◌*◌, ◌%◌, ◌^◌, leb, ltb, eqb, length, Float, pos}
+use Rattle.std.specs.Prelude.{Option, None, Some, Result, Ok, Err, ◌≡◌, refl, Bool, false, ◌||◌, cond, List, [], ◌∷◌, ◌++◌, ℕ, zero, suc, ◌+◌, ◌*◌, ◌%◌, ◌^◌, leb, ltb, eqb, length, Float, pos}
 use Rattle.std.specs.Float.{nan, fin}
 use Rattle.std.specs.Float.Ieee.{mul}
 use Rattle.number.specs.Bytes.{bytes_of}
@@ -8,9 +8,10 @@ use Rattle.pcm.specs.Sample.{rounded_to, is_past, is_held, word_of}
 use Rattle.pcm.specs.Samples.{bytes_of_all, count}
 use Rattle.riff.specs.declared.writing.Width.{Width}
 use Rattle.riff.specs.declared.writing.Width.TheVariants.{Sixteen, TwentyFour}
-use Rattle.riff.specs.declared.writing.Asked.{Asked}
-use Rattle.riff.specs.declared.writing.Asked.TheVariants.{For, Other}
 use Rattle.riff.specs.declared.writing.Written.{Written}
+use Rattle.riff.specs.declared.refusal.Refusal.{Refusal}
+use Rattle.riff.specs.declared.refusal.Refusal.TheVariants.{LimitBroken, TooLong, RoomShort}
+use Rattle.riff.specs.Refusal.{number_of}
 use Rattle.riff.specs.Left.{left}
 
 -- ---- the width
@@ -24,8 +25,8 @@ abbrev pub bits_in : Width → ℕ
 bits_in Sixteen = 16
 bits_in TwentyFour = 24
 
-abbrev pub asked_of : ℕ → Asked
-asked_of bits = cond (eqb bits 16) (For Sixteen) (cond (eqb bits 24) (For TwentyFour) Other)
+abbrev pub asked_of : ℕ → Option Width
+asked_of bits = cond (eqb bits 16) (Some Sixteen) (cond (eqb bits 24) (Some TwentyFour) None)
 
 -- a sample's bits, and whether it is held back
 abbrev pub word_in : Width → Float → ℕ
@@ -93,20 +94,21 @@ file_of width rate samples = header_of width rate (length samples) ++ sound_of w
 abbrev pub refused : ℕ → Written
 refused number = record { number = number; bytes = 0; held = 0 }
 
--- a file of n samples: 1 where the rate is outside document 01's limits, 22 where the size in the header does not fit 32 bits, and else 0
-unfoldable pub refusal_of : Width → ℕ → ℕ → ℕ
+-- a file of n samples: refused where the rate is outside document 01's limits, and where the size in the header does not fit 32 bits
+unfoldable pub refusal_of : Width → ℕ → ℕ → Result (Unit {0}) Refusal
 refusal_of width rate n =
-    cond (ltb rate 1 || ltb 192000 rate) 1
-    (cond (leb (2 ^ 32) (36 + padded (bytes_in width * n))) 22
-    0)
+    cond (ltb rate 1 || ltb 192000 rate) (Err LimitBroken)
+    (cond (leb (2 ^ 32) (36 + padded (bytes_in width * n))) (Err TooLong)
+    (Ok tt))
 
--- what comes next, where that number is 0
-abbrev pub unless : ℕ → Written → Written
-unless number next = cond (eqb number 0) next (refused number)
+-- what comes next, where it is not refused
+abbrev pub unless : Result (Unit {0}) Refusal → Written → Written
+unless (Ok _) next = next
+unless (Err r) next = refused (number_of r)
 
 -- where there is room for the bytes they are written, and else it is refused
 abbrev pub room_for : ℕ → ℕ → ℕ → Written
-room_for room bytes held = cond (ltb room bytes) (refused 23) (record { number = 0; bytes = bytes; held = held })
+room_for room bytes held = cond (ltb room bytes) (refused (number_of RoomShort)) (record { number = 0; bytes = bytes; held = held })
 
 -- the header of n samples, a part of them, the pad, and the whole file, with `room` bytes lent
 abbrev pub header_answer : Width → ℕ → ℕ → ℕ → Written
@@ -137,19 +139,19 @@ unfolding file_of header_of bytes_of_all bytes_of zeros rounded_to mul
 small_file = refl
 
 -- the largest counts, and one more
-pub most_16 : refusal_of Sixteen 16000 2147483629 ≡ 0
+pub most_16 : refusal_of Sixteen 16000 2147483629 ≡ Ok tt
 unfolding refusal_of
 most_16 = refl
 
-pub too_many_16 : refusal_of Sixteen 16000 2147483630 ≡ 22
+pub too_many_16 : refusal_of Sixteen 16000 2147483630 ≡ Err TooLong
 unfolding refusal_of
 too_many_16 = refl
 
-pub most_24 : refusal_of TwentyFour 16000 1431655752 ≡ 0
+pub most_24 : refusal_of TwentyFour 16000 1431655752 ≡ Ok tt
 unfolding refusal_of
 most_24 = refl
 
-pub too_many_24 : refusal_of TwentyFour 16000 1431655753 ≡ 22
+pub too_many_24 : refusal_of TwentyFour 16000 1431655753 ≡ Err TooLong
 unfolding refusal_of
 too_many_24 = refl
 
@@ -172,5 +174,5 @@ unfolding refusal_of count is_past mul
 whole_answer = refl
 
 -- 8 bits are no width
-pub eight_bits : asked_of 8 ≡ Other
+pub eight_bits : asked_of 8 ≡ None
 eight_bits = refl

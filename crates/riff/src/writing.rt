@@ -1,10 +1,11 @@
 // A sound file written into a buffer that the caller lends: at once, or in pieces, which are the header, the bytes of any parts of the samples, and the pad.
-ghost use Rattle.std.specs.Prelude.{◌≡◌, ◌+◌, ◌*◌, ◌%◌, ◌≤◌, length};
+ghost use Rattle.std.specs.Prelude.{◌≡◌, ◌+◌, ◌*◌, ◌%◌, ◌^◌, ◌<◌, ◌≤◌, length};
 ghost use Rattle.std.proofs.lemmas.List.Edits.{sets};
-ghost use Rattle.number.specs.Bytes.{bytes_of};
 ghost use Rattle.pcm.specs.Samples.{count};
-ghost use Rattle.riff.specs.Writing.{bytes_of_words, bytes_in, held_in, asked_of, header_of, sound_of, pad_of, file_of, refusal_of, refused, header_answer, part_answer, pad_answer, file_answer, Writes};
+ghost use Rattle.riff.specs.Refusal.{number_of};
+ghost use Rattle.riff.specs.Writing.{bytes_of_words, bytes_in, bits_in, padded, held_in, asked_of, header_of, sound_of, pad_of, file_of, refusal_of, refused, header_answer, part_answer, pad_answer, file_answer, Writes};
 
+use crate::refusal::Refusal;
 use pcm::{Bits16, Bits24};
 
 // The bits of a sample.
@@ -14,15 +15,8 @@ pub enum Width {
     TwentyFour,
 }
 
-// A width that was asked for by its bits.
-#[derive(Clone, Copy)]
-pub enum Asked {
-    For(Width),
-    Other,
-}
-
 // What writing answers: a number, the bytes written, and how many of their samples were held back; 0 and 0 where it is refused. 1: the rate is outside the limits;
-// 22: the file's size does not fit its field; 23: the buffer is short.
+// 22: the file's size does not fit its field; 23: the buffer is short. C takes it by this layout.
 #[repr(C)]
 #[derive(Clone, Copy)]
 pub struct Written {
@@ -31,16 +25,15 @@ pub struct Written {
     pub held: usize,
 }
 
-pub fn width_of(bits: u64) -> Asked
+// The width that has so many bits.
+pub fn width_of(bits: u64) -> Option<Width>
     ensures { result ≡ asked_of bits }
 {
-    if bits == 16 {
-        return Asked::For(Width::Sixteen);
+    match bits {
+        16 => Some(Width::Sixteen),
+        24 => Some(Width::TwentyFour),
+        _ => None,
     }
-    if bits == 24 {
-        return Asked::For(Width::TwentyFour);
-    }
-    Asked::Other
 }
 
 pub fn refused_by(number: u64) -> Written
@@ -53,8 +46,16 @@ pub fn refused_by(number: u64) -> Written
     }
 }
 
-// The bytes of a sample.
-fn bytes_in(width: Width) -> usize
+impl From<Refusal> for Written {
+    ghost from_gives = { λ refusal written. written ≡ refused (number_of refusal) };
+
+    fn from(refusal: Refusal) -> Written {
+        refused_by(refusal.number())
+    }
+}
+
+// The bytes of a sample, and its bits.
+pub(crate) fn bytes_in(width: Width) -> usize
     ensures { (result ≡ bytes_in width) × (2 ≤ result) × (result ≤ 3) }
 {
     match width {
@@ -63,53 +64,48 @@ fn bytes_in(width: Width) -> usize
     }
 }
 
-// Whether a file of n samples can be: 0, or the number it is refused by. The count is tested before it is multiplied, so that nothing overflows.
-fn refusal(width: Width, rate: u64, n: usize) -> u64
-    ensures { result ≡ refusal_of width rate n }
+pub(crate) fn bits_in(width: Width) -> u64
+    ensures { result ≡ bits_in width }
 {
-    let k = bytes_in(width);
-    if (rate < 1) | (192_000 < rate) {
-        return 1;
+    match width {
+        Width::Sixteen => 16,
+        Width::TwentyFour => 24,
     }
-    if 0x1_0000_0000 <= n {
-        return 22;
-    }
-    let sound = k * n;
-    if 0x1_0000_0000 <= 36 + (sound + sound % 2) {
-        return 22;
-    }
-    0
 }
 
-// The four lowest bytes of v.
-fn put_word(out: &mut [u8], at: usize, v: usize)
-    requires { at + 4 ≤ length out.old }
-    ensures { out.new ≡ sets out.old at (bytes_of 4 v) }
+// Whether a file of n samples can be. The count is tested before it is multiplied, so that nothing overflows.
+fn fits(width: Width, rate: u64, n: usize) -> Result<(), Refusal>
+    ensures { result ≡ refusal_of width rate n }
 {
-    out[at] = (v % 256) as u8;
-    out[at + 1] = (v / 256 % 256) as u8;
-    out[at + 2] = (v / 256 / 256 % 256) as u8;
-    out[at + 3] = (v / 256 / 256 / 256 % 256) as u8;
+    if (rate < 1) | (192_000 < rate) {
+        return Err(Refusal::LimitBroken);
+    }
+    if 0x1_0000_0000 <= n {
+        return Err(Refusal::TooLong);
+    }
+    let sound = bytes_in(width) * n;
+    if 0x1_0000_0000 <= 36 + (sound + sound % 2) {
+        return Err(Refusal::TooLong);
+    }
+    Ok(())
 }
 
 // Words of four bytes, one after the other, from the front.
-fn put_words(out: &mut [u8], words: &[usize])
+fn put_words(out: &mut [u8], words: &[u32])
     requires { 4 * length words.now ≤ length out.old }
     ensures { out.new ≡ sets out.old 0 (bytes_of_words words.now) }
 {
-    let mut i: usize = 0;
-    while i < words.len() {
-        put_word(out, 4 * i, words[i]);
-        i += 1;
+    for (i, word) in words.iter().enumerate() {
+        out[4 * i..4 * i + 4].copy_from_slice(&word.to_le_bytes());
     }
 }
 
 // The header as eleven words. Two hold two fields each: the kind of file and the channels, 1 and 1; the bytes and the bits of a sample, k and 8 k.
-fn put_header(out: &mut [u8], width: Width, rate: usize, n: usize, sound: usize)
-    requires { (44 ≤ length out.old) × (sound ≡ bytes_in width * n) × (sound ≤ 4294967259) × (rate ≤ 192000) }
+fn put_header(out: &mut [u8], width: Width, rate: u32, sound: u32, n: usize)
+    requires { (44 ≤ length out.old) × (sound ≡ bytes_in width * n) × (36 + padded sound < 2 ^ 32) × (rate ≤ 192000) }
     ensures { out.new ≡ sets out.old 0 (header_of width rate n) }
 {
-    let k = bytes_in(width);
+    let k = bytes_in(width) as u32;
     let size = 36 + (sound + sound % 2);
     let second = k * rate;
     let sample = 0x8_0001 * k;
@@ -163,15 +159,14 @@ fn put_pad(out: &mut [u8], at: usize, sound: usize)
 pub fn header(width: Width, rate: u64, n: usize, out: &mut [u8]) -> Written
     ensures { Writes (header_answer width rate n (length out.old)) (header_of width rate n) out.old result out.new }
 {
-    let number = refusal(width, rate, n);
-    if number != 0 {
-        return refused_by(number);
+    if let Err(refusal) = fits(width, rate, n) {
+        return Written::from(refusal);
     }
     if out.len() < 44 {
-        return refused_by(23);
+        return Written::from(Refusal::RoomShort);
     }
     let sound = bytes_in(width) * n;
-    put_header(out, width, rate as usize, n, sound);
+    put_header(out, width, rate as u32, sound as u32, n);
     Written {
         number: 0,
         bytes: 44,
@@ -185,7 +180,7 @@ pub fn part(width: Width, samples: &[f64], out: &mut [u8]) -> Written
 {
     let bytes = bytes_in(width) * samples.len();
     if out.len() < bytes {
-        return refused_by(23);
+        return Written::from(Refusal::RoomShort);
     }
     let held = put_samples(out, 0, width, samples);
     Written {
@@ -201,7 +196,7 @@ pub fn pad(width: Width, n: usize, out: &mut [u8]) -> Written
 {
     let sound = bytes_in(width) * (n % 2);
     if out.len() < sound % 2 {
-        return refused_by(23);
+        return Written::from(Refusal::RoomShort);
     }
     put_pad(out, 0, sound);
     Written {
@@ -218,16 +213,15 @@ pub fn file(width: Width, rate: u64, samples: &[f64], out: &mut [u8]) -> Written
     ensures { Writes (file_answer width rate samples.now (length out.old)) (file_of width rate samples.now) out.old result out.new }
 {
     let n = samples.len();
-    let number = refusal(width, rate, n);
-    if number != 0 {
-        return refused_by(number);
+    if let Err(refusal) = fits(width, rate, n) {
+        return Written::from(refusal);
     }
     let sound = bytes_in(width) * n;
     let bytes = 44 + (sound + sound % 2);
     if out.len() < bytes {
-        return refused_by(23);
+        return Written::from(Refusal::RoomShort);
     }
-    put_header(out, width, rate as usize, n, sound);
+    put_header(out, width, rate as u32, sound as u32, n);
     let held = put_samples(out, 44, width, samples);
     put_pad(out, 44 + sound, sound);
     Written {

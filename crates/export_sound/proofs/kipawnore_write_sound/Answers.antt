@@ -4,8 +4,8 @@ use Rattle.export_sound.proofs.SoundLaws.{no_width, of_width}
 use Rattle.export_sound.proofs.kipawnore_write_sound.Goals as goal
 
 pub returns-in_default : goal.returns-in_default
-returns-in_default c = no_width _ _ _ _ _ (sym c.width_of-asked.ensures ∙ c.in_default.is) c.refused_by.ensures
+returns-in_default c = no_width _ _ _ _ _ (sym c.width_of.ensures ∙ c.in_default.is) c.from.ensures
 
 pub returns : goal.returns
 returns c =
-    of_width _ _ _ _ _ _ _ (sym c.width_of-asked.ensures ∙ c.in-For.is) c.file.ensures
+    of_width _ _ _ _ _ _ _ (sym c.width_of.ensures ∙ c.in-Some.is) c.file.ensures

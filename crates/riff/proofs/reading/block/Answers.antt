@@ -5,7 +5,7 @@ use Rattle.riff.proofs.reading.block.Goals as goal
 
 pub returns-then-pcm-channels : goal.returns-then-pcm-channels
 unfolding block_of
-returns-then-pcm-channels c = rw (← c.is_pcm-pcm.ensures, ← c.two-channels.ensures.0, ← c.two-k.ensures.0, ← c.two-bits.ensures.0, c.if-pcm-channels.true) refl
+returns-then-pcm-channels c = rw (← c.is_pcm-pcm.ensures, ← c.two-channels.ensures.0, ← c.two-k.ensures.0, ← c.two-bits.ensures.0, c.if-pcm-channels.true) c.width_of.ensures
 
 pub returns-else-pcm-channels : goal.returns-else-pcm-channels
 unfolding block_of

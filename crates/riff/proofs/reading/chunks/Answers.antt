@@ -1,22 +1,12 @@
 -- `chunks`: the walk up to the file's end. Assumes nothing.
-use mathlib.Core.Path.{◌∙◌}
-use lib.ListN.{length}
-use Rattle.riff.specs.declared.reading.Ends.TheVariants.{At}
-use Rattle.riff.specs.Reading.{EndsIn}
-use Rattle.riff.proofs.ReadingLaws.{chunks_found, chunks_refused, walk_found}
+use Rattle.std.proofs.Common.{◌∙◌, ap}
+use Rattle.riff.specs.Reading.{walk_to}
+use Rattle.riff.proofs.ReadingLaws.{end_long, walk_found}
 use Rattle.riff.proofs.reading.chunks.Goals as goal
-use Rattle.riff.proofs.reading.chunks.Goals.{In-At}
-
-ends : (c : In-At) → EndsIn (length c.args.s.now) (At c.in-At.end)
-ends c = rw c.in-At.is at c.file_end-answer.ensures.1
 
 pub walk-requires : goal.walk-requires
-walk-requires c = ends (goal.at.walk-requires c).In-At
+walk-requires c = (end_long c.args.s.now _ c.in_ok-end.ensures.0, c.in_ok-end.ensures.1.0, c.in_ok-end.ensures.1.1)
 
-pub returns-in-At : goal.returns-in-At
-returns-in-At c =
-    let found = chunks_found c.args.s.now _ _ c.file_end-answer.ensures.0 c.in-At.is in
-    (c.walk.ensures ∙ found, rw c.walk.ensures (walk_found c.args.s.now _ (ends (goal.at.returns-in-At c).In-At).0))
-
-pub returns-in-Refused : goal.returns-in-Refused
-returns-in-Refused c = (chunks_refused c.args.s.now _ _ c.file_end-answer.ensures.0 c.in-Refused.is, tt)
+pub returns : goal.returns
+returns c =
+    (c.walk.ensures ∙ ap (walk_to c.args.s.now) c.in_ok-end.ensures.0, rw c.walk.ensures (walk_found c.args.s.now _ c.in_ok-end.ensures.1.0))

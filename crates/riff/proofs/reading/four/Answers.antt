@@ -1,16 +1,8 @@
--- `four`: its lowest byte and the others. Assumes nothing.
-use native.Mathlib.Omega.{arith}
-use Rattle.riff.proofs.ReadingLaws.{field_more}
+-- `four`: its four bytes. Assumes nothing.
+use Rattle.std.proofs.Common.{◌+◌, arith}
+use Rattle.riff.proofs.ReadingLaws.{field_four}
 use Rattle.riff.proofs.reading.four.Goals as goal
 
-pub overflow_cast-result : goal.overflow_cast-result
-overflow_cast-result c = omega (arith, c.type_inv.s c.args.at)
-
-pub overflow_add-result : goal.overflow_add-result
-overflow_add-result c = omega (arith, c.type_inv.s c.args.at, c.three.ensures.1)
-
 pub returns : goal.returns
-returns c = (
-  rw c.three.ensures.0 (field_more c.args.s.now c.args.at 3 (omega (arith, c.requires))),
-  omega (arith, c.type_inv.s c.args.at, c.three.ensures.1),
-)
+returns c =
+    (omega (arith, field_four c.args.s.now c.args.at c.requires), omega (arith, c.type_inv.s c.args.at, c.type_inv.s (c.args.at + 1), c.type_inv.s (c.args.at + 2), c.type_inv.s (c.args.at + 3)))

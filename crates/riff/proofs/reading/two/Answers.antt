@@ -1,21 +1,8 @@
 -- `two`: its two bytes. Assumes nothing.
-use Prim.Native.Nat.{◌+◌}
-use native.Mathlib.Omega.{arith}
+use Rattle.std.proofs.Common.{◌+◌, arith}
 use Rattle.riff.proofs.ReadingLaws.{field_two}
 use Rattle.riff.proofs.reading.two.Goals as goal
 
-pub overflow_cast-result : goal.overflow_cast-result
-overflow_cast-result c = omega (arith, c.type_inv.s c.args.at)
-
-pub overflow_cast-result-2 : goal.overflow_cast-result-2
-overflow_cast-result-2 c = omega (arith, c.type_inv.s (c.args.at + 1))
-
-pub overflow_mul-result : goal.overflow_mul-result
-overflow_mul-result c = omega (arith, c.type_inv.s (c.args.at + 1))
-
-pub overflow_add-result-2 : goal.overflow_add-result-2
-overflow_add-result-2 c = omega (arith, c.type_inv.s c.args.at, c.type_inv.s (c.args.at + 1))
-
 pub returns : goal.returns
 returns c =
-    (field_two c.args.s.now c.args.at c.requires, omega (arith, c.type_inv.s c.args.at, c.type_inv.s (c.args.at + 1)))
+    (omega (arith, field_two c.args.s.now c.args.at c.requires), omega (arith, c.type_inv.s c.args.at, c.type_inv.s (c.args.at + 1)))

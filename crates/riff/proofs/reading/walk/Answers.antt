@@ -1,21 +1,22 @@
 -- `walk`: the walk from here on is the walk from the first chunk on. Assumes nothing.
-use mathlib.Core.Path.{◌∙◌}
-use native.Mathlib.Omega.{arith}
-use Rattle.riff.proofs.ReadingLaws.{walk_turn, walk_out}
+use Rattle.std.proofs.Common.{◌∙◌, arith}
+use Rattle.std.proofs.lemmas.Result.{err_from_is_err_and}
+use Rattle.riff.proofs.ReadingLaws.{walk_start, walk_end, walk_refused, walk_further, walk_turn}
 use Rattle.riff.proofs.reading.walk.Goals as goal
 
-pub returns-in-End : goal.returns-in-End
-returns-in-End c =
-    c.whole.ensures ∙ walk_turn c.args.s.now c.args.end c.loop-left.c c.loop-left.left _ _ _ (omega arith) c.next-answer.ensures c.in-End.is c.loop-left.invariant
+pub loop-c-init : goal.loop-c-init
+loop-c-init c = walk_start c.args.s.now c.args.end c.requires.0 c.requires.1
 
-pub returns-in-Refused : goal.returns-in-Refused
-returns-in-Refused c =
-    walk_turn c.args.s.now c.args.end c.loop-left.c c.loop-left.left _ _ _ (omega arith) c.next-answer.ensures c.in-Refused.is c.loop-left.invariant
+pub returns-in_err-c : goal.returns-in_err-c
+returns-in_err-c c =
+    let p = err_from_is_err_and c.from_residual.result c.from_residual.ensures.1 in
+    rw (p.1, p.2) (walk_refused _ _ _ _ c.loop-c.invariant c.loop-c-test.true _ c.in_err-c.ensures)
 
-pub loop-left-preserved : goal.loop-left-preserved
-loop-left-preserved c =
-    walk_turn c.args.s.now c.args.end c.loop-left.c c.loop-left.left _ _ _ (omega arith) c.next-answer.ensures c.in-More.is c.loop-left.invariant
+pub loop-c-smaller : goal.loop-c-smaller
+loop-c-smaller c = omega (arith, c.loop-c-test.true, walk_further _ _ _ _ c.loop-c.invariant c.loop-c-test.true _ c.in_ok-c.ensures)
+
+pub loop-c-preserved : goal.loop-c-preserved
+loop-c-preserved c = walk_turn _ _ _ _ c.loop-c.invariant c.loop-c-test.true _ c.in_ok-c.ensures
 
 pub returns : goal.returns
-returns c =
-    walk_out c.args.s.now c.args.end c.loop-left.c c.loop-left.left _ (omega arith) c.loop-left.invariant
+returns c = c.whole.ensures ∙ walk_end _ _ _ _ c.loop-c.invariant c.loop-c-test.false

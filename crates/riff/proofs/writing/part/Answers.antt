@@ -5,6 +5,8 @@ use native.Mathlib.Nat.{mul-le-mul_right}
 use native.Mathlib.Omega.{arith}
 use lib.ListN.{length}
 use Rattle.pcm.proofs.SamplesLaws.{length_bytes_of}
+use Rattle.std.specs.Prelude.{Ok}
+use Rattle.riff.specs.declared.refusal.Refusal.TheVariants.{RoomShort}
 use Rattle.riff.proofs.WritingLaws.{short, enough, writes_nothing, writes_all}
 use Rattle.riff.proofs.writing.part.Goals as goal
 
@@ -13,7 +15,7 @@ overflow_mul-bytes c = record { fits = omega (arith, mul-le-mul_right (length c.
 
 pub returns-then-out-bytes : goal.returns-then-out-bytes
 returns-then-out-bytes c =
-    writes_nothing _ _ _ 23 (λ q. omega arith) (rw (← c.bytes_in.ensures.0) (short 0 (length c.args.out.now) (c.bytes_in.result * length c.args.samples.now) _ refl (omega arith))) _ c.refused_by.ensures
+    writes_nothing _ _ _ RoomShort (rw (← c.bytes_in.ensures.0) (short (Ok tt) (length c.args.out.now) (c.bytes_in.result * length c.args.samples.now) _ refl (omega arith))) _ c.from.ensures
 
 pub put_samples-held-requires : goal.put_samples-held-requires
 put_samples-held-requires c = rw (← c.bytes_in.ensures.0) (omega arith)
@@ -22,4 +24,4 @@ pub returns : goal.returns
 returns c =
     let bytes = c.bytes_in.result * length c.args.samples.now in
     let room : bytes ≤ length c.args.out.now = omega arith in
-    writes_all _ _ c.args.out.now bytes c.put_samples-held.result _ (rw (← c.bytes_in.ensures.0, ← c.put_samples-held.ensures.held) (enough 0 (length c.args.out.now) bytes c.put_samples-held.result refl room)) (rw c.bytes_in.ensures.0 (length_bytes_of _ _ c.args.samples.now)) room c.put_samples-held.ensures.bytes
+    writes_all _ _ c.args.out.now bytes c.put_samples-held.result _ (rw (← c.bytes_in.ensures.0, ← c.put_samples-held.ensures.held) (enough (Ok tt) (length c.args.out.now) bytes c.put_samples-held.result refl room)) (rw c.bytes_in.ensures.0 (length_bytes_of _ _ c.args.samples.now)) room c.put_samples-held.ensures.bytes
