@@ -7,7 +7,7 @@ use lib.Dec.{eqb}
 use lib.ListN.{length, take, drop}
 use lib.Seq.{drop-append_seam, take-append_seam, length-take-le}
 use lib.Ieee.{Float}
-use Rattle.number.specs.Lists.{over, row, put_row}
+use Rattle.number.specs.Lists.{over}
 use Rattle.history.specs.Steps.{Run, steps}
 use Rattle.history.specs.Through.{Passage, passage, through}
 use Rattle.history.specs.Feeding.{fed}
@@ -25,27 +25,17 @@ use Rattle.filter.specs.Zero as zeroStage
 use Rattle.filter.specs.NonZero as otherStages
 use Rattle.voice.specs.declared.Voice.{Voice}
 use Rattle.voice.specs.Voice.{in_front}
-use Rattle.voice.proofs.FrontLaws.{lent_front, put_front, front_twice}
+use Rattle.voice.proofs.FrontLaws.{front_twice}
 use Rattle.drawing.specs.Step.{Filters, filters, taps_of, increments_of, excitation_of, filters_of, moved, with_excitation, with_filters, counted, closed, closed_at_end, turn_of, step, filtered}
 use Rattle.drawing.specs.declared.sound.Remains.{Remains}
 use Rattle.drawing.specs.Finish.{pulse_at_end, entries_at_end, with_remains, ended}
 use Rattle.drawing.proofs.StepLaws.{Long, samples_are, finished}
 
 module _ (v : Voice) where
-  abbrev lent_line : List Float → List Float
-  lent_line array = row 0 v.configuration.nlpf array
-
-  -- the excitation, as the code asks for it
-  abbrev pub excited : ℕ → ℕ → Run Excitation Float
-  excited bound n = stretch_of bound (lent_line v.lpf) n (excitation.state v.pulse v.random (lent_line v.line))
-
-  pub excited_is : (bound n : ℕ) → excited bound n ≡ stretch_of bound (taps_of v) n (excitation_of v)
-  excited_is bound n = rw (lent_front v.configuration.nlpf v.lpf, lent_front v.configuration.nlpf v.line) refl
-
   -- the voice with an excitation and its samples counted, as the code builds it
   pub excited_voice : (e : Excitation) (made : ℕ) (pulse : Pulse) (random : Random) (line : List Float) → excitation.state pulse random line ≡ e → length line ≡ v.configuration.nlpf
-      → moved v (v.meter + made) (v.left - made) pulse random (put_row 0 v.configuration.nlpf line v.line) v.coefficients v.zero v.nonzero ≡ counted made (with_excitation e v)
-  excited_voice e made pulse random line h n = rw (← h, put_front v.configuration.nlpf v.line line n) refl
+      → moved v (v.meter + made) (v.left - made) pulse random (line ++ drop v.configuration.nlpf v.line) v.coefficients v.zero v.nonzero ≡ counted made (with_excitation e v)
+  excited_voice e made pulse random line h n = rw (← h, n) refl
 
   -- the voice with other coefficients and taps
   abbrev pub refiltered : List Float → MelLogSpectrumApproximation → MelGeneralizedLogSpectrumApproximation → Voice
@@ -54,23 +44,23 @@ module _ (v : Voice) where
   -- the filters over some samples
   module _ (n : ℕ) (size : n ≡ v.configuration.nmcp) (xs out c before : List Float) (whole : before ≡ take v.configuration.nmcp v.coefficients) where
     pub filtered_zero : (taps : MelLogSpectrumApproximation) → eqb v.configuration.stage 0 ≡ true
-        → passage out (state c taps) ≡ through (zeroStage.sample_of v.configuration.alpha v.configuration.volume (row 0 n v.increments)) (state before v.zero) xs
+        → passage out (state c taps) ≡ through (zeroStage.sample_of v.configuration.alpha v.configuration.volume (take n v.increments)) (state before v.zero) xs
         → passage out (refiltered c taps v.nonzero) ≡ filtered v xs
     unfolding filtered turn_of
     filtered_zero taps s h =
         let inside = through_within (λ (f : Filters). state f.c f.zero) (λ (t : State MelLogSpectrumApproximation) (f : Filters). filters t.c t.filter f.nonzero)
         (zeroStage.sample_of v.configuration.alpha v.configuration.volume (increments_of v)) (λ (f : Filters). refl) (λ (t : State MelLogSpectrumApproximation) (f : Filters). refl) (λ (t u : State MelLogSpectrumApproximation) (f : Filters). refl) (filters_of v) xs in
-        let asked = rw (lent_front n v.increments, size, whole) at h in
+        let asked = rw (size, whole) at h in
         rw (s, inside, ← asked) refl
 
     pub filtered_nonzero : (taps : MelGeneralizedLogSpectrumApproximation) → eqb v.configuration.stage 0 ≡ false
-        → passage out (state c taps.d) ≡ through (otherStages.sample_of v.configuration.alpha v.configuration.stage v.configuration.volume (row 0 n v.increments)) (state before v.nonzero.d) xs
+        → passage out (state c taps.d) ≡ through (otherStages.sample_of v.configuration.alpha v.configuration.stage v.configuration.volume (take n v.increments)) (state before v.nonzero.d) xs
         → passage out (refiltered c v.zero taps) ≡ filtered v xs
     unfolding filtered turn_of
     filtered_nonzero taps s h =
         let inside = through_within (λ (f : Filters). state f.c f.nonzero) (λ (t : State (List Float)) (f : Filters). filters t.c f.zero t.filter)
         (otherStages.sample_of v.configuration.alpha v.configuration.stage v.configuration.volume (increments_of v)) (λ (f : Filters). refl) (λ (t : State (List Float)) (f : Filters). refl) (λ (t u : State (List Float)) (f : Filters). refl) (filters_of v) xs in
-        let asked = rw (lent_front n v.increments, size, whole) at h in
+        let asked = rw (size, whole) at h in
         rw (s, inside, ← asked) refl
 
   -- the frame's end after them
@@ -91,18 +81,17 @@ module _ (v : Voice) where
 
   -- the voice with all of that, as the code builds it
   pub finished_voice : (c : List Float) (r : Remains) → length c ≡ v.configuration.nmcp
-      → moved v v.meter v.left r.pulse v.random v.line (put_row 0 v.configuration.nmcp c v.coefficients) r.zero r.nonzero ≡ with_remains c r v
-  finished_voice c r n = rw (put_front v.configuration.nmcp v.coefficients c n) refl
+      → moved v v.meter v.left r.pulse v.random v.line (c ++ drop v.configuration.nmcp v.coefficients) r.zero r.nonzero ≡ with_remains c r v
+  finished_voice c r n = rw n refl
 
 -- ---- both passes
 
 -- what a buffer holds whose first entries were filled and then turned
-pub turned_over : (xs ys before : List Float) (n : ℕ) → length xs ≡ n → length ys ≡ n → put_row 0 n ys (over xs n before) ≡ over ys n before
-turned_over xs ys before n h k =
-    put_front n (over xs n before) ys k ∙ ap (λ (l : List Float). ys ++ l) (rw (k, ← h) (drop-append_seam xs (drop (length xs) before)))
+pub turned_over : (xs ys before : List Float) (n : ℕ) → length xs ≡ n → ys ++ drop n (over xs n before) ≡ over ys n before
+turned_over xs ys before n h = ap (λ (l : List Float). ys ++ l) (rw (← h) (drop-append_seam xs (drop (length xs) before)))
 
-pub lent_made : (xs before : List Float) (n : ℕ) → length xs ≡ n → row 0 n (over xs n before) ≡ xs
-lent_made xs before n h = lent_front n (over xs n before) ∙ rw (← h) (take-append_seam xs (drop (length xs) before))
+pub lent_made : (xs before : List Float) (n : ℕ) → length xs ≡ n → take n (over xs n before) ≡ xs
+lent_made xs before n h = rw (← h) (take-append_seam xs (drop (length xs) before))
 
 module _ (bound n : ℕ) (v : Voice) (l : Long v) (some : 0 < v.left) (few : n ≤ v.left) where
   abbrev source : Run Excitation Float
@@ -122,14 +111,14 @@ module _ (bound n : ℕ) (v : Voice) (l : Long v) (some : 0 < v.left) (few : n �
   -- what the code's two calls leave
   module _ (fed last : Voice) (made : ℕ) (filled part before : List Float)
       (is-fed : fed ≡ counted made (with_excitation source.state v)) (is_made : made ≡ length source.made) (is-filled : filled ≡ over source.made made before)
-      (is_last : passage part last ≡ ended fed (row 0 made filled)) where
+      (is_last : passage part last ≡ ended fed (take made filled)) where
     through_both : passage part last ≡ passage passed.made (closed_at_end (counted made (with_filters passed.state (with_excitation source.state v))))
     unfolding ended filtered
     through_both = is_last ∙ rw (is-fed, is-filled, lent_made source.made before made (sym is_made)) refl
 
-    pub sounded_is : (last ≡ (steps (step bound) n v).state) × (made ≡ length (steps (step bound) n v).made) × (put_row 0 made part filled ≡ over (steps (step bound) n v).made made before)
+    pub sounded_is : (last ≡ (steps (step bound) n v).state) × (made ≡ length (steps (step bound) n v).made) × (part ++ drop made filled ≡ over (steps (step bound) n v).made made before)
     sounded_is =
         let out : part ≡ passed.made = ap (λ (p : Passage Voice Float). p.made) through_both in
         let on : last ≡ closed_at_end (counted made (with_filters passed.state (with_excitation source.state v))) = ap (λ (p : Passage Voice Float). p.state) through_both in
         let count : length passed.made ≡ made = through_length (turn_of v.configuration (increments_of v)) (filters_of v) source.made ∙ sym is_made in
-        (on ∙ rw (two_passes, is_made) refl, rw two_passes (sym count), rw (two_passes, out, is-filled) (turned_over source.made passed.made before made (sym is_made) count))
+        (on ∙ rw (two_passes, is_made) refl, rw two_passes (sym count), rw (two_passes, out, is-filled) (turned_over source.made passed.made before made (sym is_made)))

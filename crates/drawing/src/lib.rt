@@ -3,12 +3,15 @@
 
 pub mod sound;
 
-ghost use Rattle.std.specs.Prelude.{◌≡◌, min};
-ghost use Rattle.drawing.specs.Draw.{number_for, Draws};
+ghost use Rattle.std.specs.Prelude.{◌≡◌};
+ghost use Rattle.history.specs.Machine.{draw_refusal};
+ghost use Rattle.noise.specs.Draw.{tries};
+ghost use Rattle.voice.specs.Answers as answers;
+ghost use Rattle.drawing.specs.Draw.{voice_of, number_for, Draws};
 
 use sound::sound;
-use voice::answers::{DONE, NOISE_DRY, NOTHING_LEFT, VOICE_IDLE};
-use voice::{Voice, usable};
+use voice::Voice;
+use voice::answers::{DONE, Refusal};
 
 // What draw and whole frame answer: a number of the table, the count of samples made, and the voice after them.
 #[repr(C)]
@@ -19,11 +22,17 @@ pub struct Drawn {
     pub voice: Voice,
 }
 
-// The lesser of two counts.
-fn lesser(a: usize, b: usize) -> usize
-    ensures { result ≡ min a b }
+// Why draw is refused: 2, then 10.
+fn refusal(voice: &Voice) -> Result<(), Refusal>
+    ensures { answers.number_for result ≡ draw_refusal (voice_of tries) voice.now }
 {
-    if a <= b { a } else { b }
+    if !voice.is_usable() {
+        return Err(Refusal::VoiceIdle);
+    }
+    if voice.left == 0 {
+        return Err(Refusal::NothingLeft);
+    }
+    Ok(())
 }
 
 // An answer without samples.
@@ -41,38 +50,29 @@ fn nothing(number: u64, voice: Voice) -> Drawn
 fn number_of(made: usize, count: usize) -> u64
     ensures { result ≡ number_for made count }
 {
-    if made < count { NOISE_DRY } else { DONE }
+    if made < count {
+        Refusal::NoiseDry.number()
+    } else {
+        DONE
+    }
 }
 
 // DRAW: into the buffer from `start` on. A start past its end leaves no room.
 pub fn draw(voice: Voice, out: &mut [f64], start: usize) -> Drawn
     ensures { Draws voice out.old start result out.new }
 {
-    let random = voice.random;
-    if !usable(
-        voice.configuration,
-        voice.meter,
-        voice.left,
-        voice.first,
-        random.used,
-    ) {
-        return nothing(VOICE_IDLE, voice);
+    if let Err(refusal) = refusal(&voice) {
+        return nothing(refusal.number(), voice);
     }
-    if voice.left == 0 {
-        return nothing(NOTHING_LEFT, voice);
-    }
-    let len = out.len();
-    if start >= len {
+    let room = out.len().saturating_sub(start);
+    if room == 0 {
         return nothing(DONE, voice);
     }
-    let count = lesser(len - start, voice.left);
-    let end = start + count;
-    let sounded = sound(voice, &mut out[start..end]);
-    let after = sounded.voice;
-    let made = sounded.made;
+    let count = room.min(voice.left);
+    let sounded = sound(voice, &mut out[start..start + count]);
     Drawn {
-        number: number_of(made, count),
-        made,
-        voice: after,
+        number: number_of(sounded.made, count),
+        made: sounded.made,
+        voice: sounded.voice,
     }
 }

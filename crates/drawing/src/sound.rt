@@ -44,16 +44,16 @@ fn excite(voice: Voice, samples: &mut [f64]) -> Sounded
     let lpf = voice.lpf;
     let pulse = voice.pulse;
     let random = voice.random;
-    let filled = excitation::stretch(pulse, random, &mut line[0..nlpf], &lpf[0..nlpf], samples);
-    let last_pulse = filled.pulse;
-    let last_random = filled.random;
+    let filled = excitation::stretch(pulse, random, &mut line[..nlpf], &lpf[..nlpf], samples);
     let made = filled.made;
-    let mut after = voice;
-    after.meter = voice.meter + made as u64;
-    after.left = voice.left - made;
-    after.pulse = last_pulse;
-    after.random = last_random;
-    after.line = line;
+    let after = Voice {
+        meter: voice.meter + made as u64,
+        left: voice.left - made,
+        pulse: filled.pulse,
+        line,
+        random: filled.random,
+        ..voice
+    };
     Sounded { made, voice: after }
 }
 
@@ -66,63 +66,10 @@ fn close(voice: Voice, c: &mut [f64]) -> Pulse
     if voice.left == 0 {
         let n = c.len();
         let targets = voice.targets;
-        vectors::copy(&targets[0..n], c);
+        c.copy_from_slice(&targets[..n]);
         return pulse.end();
     }
     pulse
-}
-
-// The filter of stage 0 over the samples, and the frame's end.
-fn filter_zero(voice: Voice, c: &mut [f64], samples: &mut [f64]) -> Remains
-    requires { (limits_kept voice.configuration ≡ true) × (c.old ≡ take voice.configuration.nmcp voice.coefficients) × (voice.configuration.stage ≡ 0) }
-    ensures { passage samples.new (with_remains c.new result voice) ≡ ended voice samples.old }
-{
-    let configuration = voice.configuration;
-    let n = c.len();
-    let increments = voice.increments;
-    let before = voice.zero;
-    let nonzero = voice.nonzero;
-    let zero = zero::stretch(
-        before,
-        samples,
-        c,
-        &increments[0..n],
-        configuration.alpha,
-        configuration.volume,
-    );
-    let pulse = close(voice, c);
-    Remains {
-        pulse,
-        zero,
-        nonzero,
-    }
-}
-
-// The filter of the other stages over the samples, and the frame's end.
-fn filter_nonzero(voice: Voice, c: &mut [f64], samples: &mut [f64]) -> Remains
-    requires { (limits_kept voice.configuration ≡ true) × (c.old ≡ take voice.configuration.nmcp voice.coefficients) × (0 < voice.configuration.stage) }
-    ensures { passage samples.new (with_remains c.new result voice) ≡ ended voice samples.old }
-{
-    let configuration = voice.configuration;
-    let n = c.len();
-    let increments = voice.increments;
-    let before = voice.nonzero;
-    let zero = voice.zero;
-    let nonzero = nonzero::stretch(
-        before,
-        configuration.stage as usize,
-        samples,
-        c,
-        &increments[0..n],
-        configuration.alpha,
-        configuration.volume,
-    );
-    let pulse = close(voice, c);
-    Remains {
-        pulse,
-        zero,
-        nonzero,
-    }
 }
 
 // The filter of the voice's stage over the samples, and the frame's end.
@@ -131,10 +78,24 @@ fn filter_stage(voice: Voice, c: &mut [f64], samples: &mut [f64]) -> Remains
     ensures { passage samples.new (with_remains c.new result voice) ≡ ended voice samples.old }
 {
     let configuration = voice.configuration;
+    let alpha = configuration.alpha;
+    let volume = configuration.volume;
+    let n = c.len();
+    let increments = voice.increments;
+    let mut zero = voice.zero;
+    let mut nonzero = voice.nonzero;
     if configuration.stage == 0 {
-        return filter_zero(voice, c, samples);
+        zero = zero::stretch(zero, samples, c, &increments[..n], alpha, volume);
+    } else {
+        let stage = configuration.stage as usize;
+        nonzero = nonzero::stretch(nonzero, stage, samples, c, &increments[..n], alpha, volume);
     }
-    filter_nonzero(voice, c, samples)
+    let pulse = close(voice, c);
+    Remains {
+        pulse,
+        zero,
+        nonzero,
+    }
 }
 
 // The voice after its filter and the frame's end.
@@ -145,16 +106,14 @@ fn finish(voice: Voice, samples: &mut [f64]) -> Voice
     let configuration = voice.configuration;
     let nmcp = configuration.nmcp;
     let mut c = voice.coefficients;
-    let remains = filter_stage(voice, &mut c[0..nmcp], samples);
-    let pulse = remains.pulse;
-    let zero = remains.zero;
-    let nonzero = remains.nonzero;
-    let mut after = voice;
-    after.pulse = pulse;
-    after.coefficients = c;
-    after.zero = zero;
-    after.nonzero = nonzero;
-    after
+    let remains = filter_stage(voice, &mut c[..nmcp], samples);
+    Voice {
+        pulse: remains.pulse,
+        coefficients: c,
+        zero: remains.zero,
+        nonzero: remains.nonzero,
+        ..voice
+    }
 }
 
 // As many samples as the slice is long, or as can be had, of those left.
@@ -169,6 +128,6 @@ pub fn sound(voice: Voice, samples: &mut [f64]) -> Sounded
     let fed = excited.voice;
     Sounded {
         made,
-        voice: finish(fed, &mut samples[0..made]),
+        voice: finish(fed, &mut samples[..made]),
     }
 }

@@ -1,14 +1,15 @@
--- `whole_frame` meets its contract. Assumes nothing.
-use mathlib.Core.Path.{sym, ◌∙◌}
-use Rattle.refusing.specs.Refusal.{frame}
-use Rattle.whole.proofs.WholeLaws.{renders_short, renders_refused, renders_drawn}
+use Rattle.std.proofs.Common.{rules, ◌≡◌, IfOk, ℕ, ◌+◌, ◌-◌, ◌*◌, ◌<◌, ◌≤◌, length, ◌/◌, ◌%◌, Bool, true, false, nat_eq, nat_lt, List, [], ◌∷◌, ◌++◌, slice_index_or, slice_set, bit_and, bit_or, Fits, w8, w32, w64, Bor, MutBor}
+use Rattle.voice.specs.Answers.{number_for}
+use Rattle.refusing.specs.Given.{frame_of}
+use Rattle.giving.specs.Give as give
+use Rattle.giving.specs.Give.{◌otherwise◌}
+use Rattle.whole.specs.Whole.{short_of, Renders}
 use Rattle.whole.proofs.whole_frame.Goals as goal
 
-pub returns-then-number-ne-DONE : goal.returns-then-number-ne-DONE
-returns-then-number-ne-DONE c = renders_short (frame c.args.lf0 c.args.spectrum.now c.args.lpf.now) c.args.voice c.args.out.now c.args.start _ c.refusal-number.ensures c.if-number-ne-DONE.true
+-- src/lib.rt:40:1
+pub returns-in-Ok : goal.returns-in-Ok
+returns-in-Ok c = ?
 
-pub returns-then-given-ne-DONE : goal.returns-then-given-ne-DONE
-returns-then-given-ne-DONE c = renders_refused (frame c.args.lf0 c.args.spectrum.now c.args.lpf.now) c.args.voice c.args.out.now c.args.start (sym c.refusal-number.ensures ∙ c.if-number-ne-DONE.false) _ c.give-given.ensures c.if-given-ne-DONE.true
-
-pub returns : goal.returns
-returns c = renders_drawn (frame c.args.lf0 c.args.spectrum.now c.args.lpf.now) c.args.voice c.args.out.now c.args.start (sym c.refusal-number.ensures ∙ c.if-number-ne-DONE.false) _ _ _ c.give-given.ensures c.if-given-ne-DONE.false c.draw.ensures
+-- src/lib.rt:40:1
+pub returns-in-Err : goal.returns-in-Err
+returns-in-Err c = ?
