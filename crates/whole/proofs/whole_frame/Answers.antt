@@ -1,15 +1,11 @@
-use Rattle.std.proofs.Common.{rules, ◌≡◌, IfOk, ℕ, ◌+◌, ◌-◌, ◌*◌, ◌<◌, ◌≤◌, length, ◌/◌, ◌%◌, Bool, true, false, nat_eq, nat_lt, List, [], ◌∷◌, ◌++◌, slice_index_or, slice_set, bit_and, bit_or, Fits, w8, w32, w64, Bor, MutBor}
-use Rattle.voice.specs.Answers.{number_for}
+-- `whole_frame` meets its contract. Assumes nothing.
+use mathlib.Core.Path.{sym}
 use Rattle.refusing.specs.Given.{frame_of}
-use Rattle.giving.specs.Give as give
-use Rattle.giving.specs.Give.{◌otherwise◌}
-use Rattle.whole.specs.Whole.{short_of, Renders}
+use Rattle.whole.proofs.WholeLaws.{renders_refused, renders_drawn}
 use Rattle.whole.proofs.whole_frame.Goals as goal
 
--- src/lib.rt:40:1
 pub returns-in-Ok : goal.returns-in-Ok
-returns-in-Ok c = ?
+returns-in-Ok c = renders_drawn (frame_of c.args.frame) c.args.voice c.args.out.now c.args.start _ _ _ (sym c.in-Ok.ensures.number) c.in-Ok.ensures.after c.draw.ensures
 
--- src/lib.rt:40:1
 pub returns-in-Err : goal.returns-in-Err
-returns-in-Err c = ?
+returns-in-Err c = rw c.number.ensures (renders_refused (frame_of c.args.frame) c.args.voice c.args.out.now c.args.start c.in-Err.refusal c.in-Err.ensures.number)
