@@ -21,8 +21,7 @@ fn pattern(x: f64) -> u64
 pub fn later(p: u64, x: f64) -> u64
     ensures { (p ≤ result) × UpTo result x }
 {
-    let own = pattern(x);
-    if own <= p { p } else { own }
+    p.max(pattern(x))
 }
 
 // Whether b is above zero and lost in a.

@@ -1,18 +1,11 @@
 -- `unmoved` meets its contract: what it answers is whether the product of the largest numbers is lost. Assumes nothing.
 use mathlib.Core.Path.{refl, sym, subst, ◌∙◌}
-use mathlib.Core.Bool.{false≢true}
 use native.Mathlib.Omega.{arith}
 use lib.Dec.{T}
 use lib.Ieee.{binary64, fits}
 use Rattle.root.proofs.Floats.{no_nan}
 use Rattle.lost.proofs.LostLaws.{lost_above, lost_below}
 use Rattle.lost.proofs.unmoved.Goals as goal
-
-pub returns-then-p-ge-INFINITY : goal.returns-then-p-ge-INFINITY
-returns-then-p-ge-INFINITY c e = absurd (false≢true e)
-
-pub returns-then-q-ge-INFINITY : goal.returns-then-q-ge-INFINITY
-returns-then-q-ge-INFINITY c e = absurd (false≢true e)
 
 pub float_from_bits-most : goal.float_from_bits-most
 float_from_bits-most c = no_nan _ (omega arith)
