@@ -14,18 +14,15 @@ pub fn check_lsp_stability(lsp: &mut [f64])
 {
     let min = 0.25 * PI / lsp.len() as f64;
     let last = lsp.len() - 1;
-    let mut pass: u64 = 0;
-    'passes: while pass < 4 {
+    'passes: for pass in 0u64..4 {
         let mut find = false;
-        let mut j = 1;
-        while j < last {
+        for j in 1..last {
             let tmp = lsp[j + 1] - lsp[j];
             if tmp < min {
                 lsp[j] = lsp[j] - 0.5 * (min - tmp);
                 lsp[j + 1] = lsp[j + 1] + 0.5 * (min - tmp);
                 find = true;
             }
-            j += 1;
         }
         if lsp[1] < min {
             lsp[1] = min;
@@ -38,6 +35,5 @@ pub fn check_lsp_stability(lsp: &mut [f64])
         if !find {
             break 'passes;
         }
-        pass += 1;
     }
 }

@@ -3,30 +3,14 @@ use lib.IntN.{pos}
 use lib.Ieee.{binary64, of_int}
 use Rattle.number.specs.F64.{◌⊗◌, ◌⊘◌}
 use Rattle.stability.specs.Stability.{PI, ¼f}
-use mathlib.Core.Path.{◌≡◌, refl, sym, ap, ◌∙◌}
+use mathlib.Core.Path.{◌≡◌, sym, ap, ◌∙◌}
 use Prim.Native.Nat.{◌+◌, ◌-◌}
 use native.Mathlib.Omega.{arith}
 use lib.ListN.{length, set, length-set}
 use Rattle.stability.specs.Stability.{least_gap, gap, gaps, low_end, high_end, pass_of, stable_of}
 use Rattle.stability.proofs.StabilityLaws.{at, gap_found, gap_stays, low_found, low_stays, high_found, high_stays, gaps_turn, gaps_done, pass_made, pass_found, pass_last, passes_done}
-use Rattle.number.proofs.Floats.{small_float}
 use Rattle.stability.proofs.check_lsp_stability.Goals as goal
 use Rattle.stability.proofs.check_lsp_stability.Goals.{Joined-lsp-last, Joined-lsp-min, then-tmp-min, else-tmp-min, then-lsp-min, else-lsp-min, then-lsp-last, else-lsp-last}
-
-pub int_to_float-min : goal.int_to_float-min
-int_to_float-min c = small_float _ (omega arith)
-
-pub passes-init : goal.passes-init
-passes-init c = (omega arith, omega arith, omega arith, refl, omega arith, refl)
-
-pub loop-j-init : goal.loop-j-init
-loop-j-init c = (omega arith, omega arith, omega arith, omega arith, refl)
-
-pub bounds-lsp-j-then-tmp-min-3 : goal.bounds-lsp-j-then-tmp-min-3
-bounds-lsp-j-then-tmp-min-3 c = simp length-set (omega arith)
-
-pub bounds-lsp-j-then-tmp-min-4 : goal.bounds-lsp-j-then-tmp-min-4
-bounds-lsp-j-then-tmp-min-4 c = simp length-set (omega arith)
 
 pub loop-j-preserved : goal.loop-j-preserved
 loop-j-preserved c =
@@ -35,16 +19,6 @@ loop-j-preserved c =
     let made : at c.if-tmp-min.lsp c.if-tmp-min.find ≡ gap min c.loop-j.j (at c.loop-j.lsp c.loop-j.find) = elim c.if-tmp-min.branch [ then-tmp-min w ↦ gap_found min c.loop-j.lsp _ c.loop-j.find _ c.loop-j.j w.if-tmp-min.true w.lsp-is w.find-is | else-tmp-min w ↦ gap_stays min c.loop-j.lsp _ c.loop-j.find _ c.loop-j.j w.if-tmp-min.false w.lsp-is w.find-is ] in
     let n : length c.if-tmp-min.lsp ≡ length c.loop-j.lsp = elim c.if-tmp-min.branch [ then-tmp-min w ↦ ap length w.lsp-is ∙ length-set (set c.loop-j.lsp c.loop-j.j _) (c.loop-j.j + 1) _ ∙ length-set c.loop-j.lsp c.loop-j.j _ | else-tmp-min w ↦ ap length w.lsp-is ] in
     (omega arith, omega arith, omega (arith, n), omega (arith, n), ap (gaps min (c.loop-j.j + 1) (last - (c.loop-j.j + 1))) made ∙ gaps_turn min c.loop-j.j last (at c.loop-j.lsp c.loop-j.find) (omega arith) ∙ c.loop-j.invariant.4)
-
--- the ends keep the length
-length_joined2 : (c : Joined-lsp-min) → length c.if-lsp-min.lsp ≡ length c.loop-j.lsp
-length_joined2 c = elim c.if-lsp-min.branch [ then-lsp-min w ↦ ap length w.lsp-is ∙ length-set c.loop-j.lsp 1 _ | else-lsp-min w ↦ ap length w.lsp-is ]
-
-pub bounds-lsp-last : goal.bounds-lsp-last
-bounds-lsp-last c = omega (arith, length_joined2 (goal.at.bounds-lsp-last c).Joined-lsp-min)
-
-pub bounds-lsp-last-then-lsp-last : goal.bounds-lsp-last-then-lsp-last
-bounds-lsp-last-then-lsp-last c = omega (arith, length_joined2 (goal.at.bounds-lsp-last-then-lsp-last c).Joined-lsp-min)
 
 length_joined3 : (c : Joined-lsp-last) → length c.if-lsp-last.lsp ≡ length c.passes.lsp
 length_joined3 c =
@@ -74,10 +48,6 @@ pub returns-after-passes : goal.returns-after-passes
 unfolding stable_of least_gap
 returns-after-passes c =
     sym (passes_done _ _ c.passes.pass c.passes.lsp (omega arith)) ∙ c.passes.invariant.5
-
-pub shape_of-lsp-then-not-find : goal.shape_of-lsp-then-not-find
-shape_of-lsp-then-not-find c =
-    length_joined3 (goal.at.shape_of-lsp-then-not-find c).Joined-lsp-last ∙ c.passes.invariant.3
 
 pub returns-then-not-find : goal.returns-then-not-find
 unfolding stable_of least_gap
