@@ -11,10 +11,8 @@ fn write_root(rt: &impl Print, b: u64) -> io::Result<()> {
 
 // Writes the root of the pattern on each line.
 fn write_roots(rt: &impl Print, text: &[u8]) -> io::Result<()> {
-    let mut at = 0;
-    while 17 <= text.len() - at {
-        write_root(rt, words::word(text, at))?;
-        at += 17;
+    for line in text.chunks_exact(17) {
+        write_root(rt, words::word(line, 0))?;
     }
     Ok(())
 }
