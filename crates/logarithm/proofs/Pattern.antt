@@ -5,10 +5,8 @@ use Prim.Native.Nat.{ℕ, suc, ◌+◌, ◌-◌, ◌*◌, ◌/◌, ◌%◌, ◌^
 use native.Mathlib.Nat.{lt_of_not-le, mul_assoc, pow-succ'}
 use native.Mathlib.Decide.{dec_le}
 use native.Mathlib.Omega.{arith}
-use lib.Dec.{T, le→leb}
-use lib.IntN.{pos}
 use lib.Pow.{pow_pos}
-use lib.Ieee.{binary64, of_bits, in_float}
+use lib.Ieee.{binary64, of_bits}
 use lib.Ieee.Exact.{HasValue}
 use Rattle.root.specs.Parts.{pattern_units}
 use Rattle.root.proofs.Parts.{H, normal}
@@ -28,10 +26,6 @@ field_range b h k = (omega arith, omega arith)
 pub part_range : (b : ℕ) → (4604930618986332160 ≤ part b) × (part b < 4609434218613702656)
 unfolding part field
 part_range b = (omega arith, omega arith)
-
-pub field_float : (b : ℕ) → H ≤ b → b < INF → T (in_float binary64 (pos (field b)))
-unfolding in_float
-field_float b h k = le→leb (field b) W (omega (arith, field_range b h k))
 
 -- ---- the number
 pub record Split (b μ : ℕ) : Type 0 where

@@ -58,7 +58,7 @@ pub fn ln_inside(x: f64) -> f64
     ensures result_value { Ok result ≡ ln_of x }
     ensures ln_answer { LnAnswer x (Ok result) }
 {
-    of_pattern(f64::to_bits(x))
+    of_pattern(x.to_bits())
 }
 
 // The logarithm of a positive, normal and finite x; of any other it is outside.

@@ -34,9 +34,6 @@ at_outside : (x : Float) → ln_inside x ≡ false → Err (record {}) ≡ ln_of
 unfolding ln_of
 at_outside x e = rw e refl
 
-pub returns-then-x-2 : goal.returns-then-x-2
-returns-then-x-2 c = record { value = c.ln_inside.ensures.result_value; ln_answer = c.ln_inside.ensures.ln_answer }
-
 pub returns-else-x-2 : goal.returns-else-x-2
 unfolding of_bits div
 returns-else-x-2 c =

@@ -6,17 +6,13 @@ use lib.Dec.{T}
 use lib.Ieee.{Float, binary64, fits, to_bits}
 use Rattle.elementary.specs.Exact.{ln_inside, LnAnswer}
 use Rattle.logarithm.specs.Ln.{of_pattern, ln_of}
-use Rattle.elementary.proofs.Patterns.{not_nan}
-use Rattle.logarithm.proofs.Inside.{normal_above, bits_least, bits_most}
+use Rattle.logarithm.proofs.Inside.{bits_least, bits_most}
 use Rattle.logarithm.proofs.Found.{meets}
 use Rattle.logarithm.proofs.ln_inside.Goals as goal
 use Rattle.logarithm.proofs.ln_inside.Goals.{Start}
 
 held : (c : Start) → T (fits binary64 c.args.x)
 held c = subst T (sym c.well_formed.0.1) tt
-
-pub float_to_bits-x : goal.float_to_bits-x
-float_to_bits-x c = not_nan c.args.x (normal_above c.args.x c.requires)
 
 pub of_pattern-requires : goal.of_pattern-requires
 of_pattern-requires c = (bits_least c.args.x (held c) c.requires, bits_most c.args.x (held c) c.requires)

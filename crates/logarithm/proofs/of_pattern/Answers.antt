@@ -3,16 +3,12 @@ use mathlib.Core.Path.{refl}
 use native.Mathlib.Omega.{arith}
 use Rattle.root.proofs.Floats.{no_nan}
 use Rattle.logarithm.specs.Ln.{field, part, turns, of_pattern}
-use Rattle.logarithm.proofs.Pattern.{part_range, field_float}
+use Rattle.logarithm.proofs.Pattern.{part_range}
 use Rattle.logarithm.proofs.of_pattern.Goals as goal
 
 pub float_from_bits-m : goal.float_from_bits-m
 unfolding part field
 float_from_bits-m c = no_nan (part c.args.b) (omega (arith, part_range c.args.b))
-
-pub int_to_float-a : goal.int_to_float-a
-unfolding field
-int_to_float-a c = field_float c.args.b (omega arith) (omega arith)
 
 pub returns-then-m : goal.returns-then-m
 unfolding of_pattern part field turns
