@@ -9,7 +9,8 @@ use lib.Dec.{leb, eqb}
 use lib.Ieee.{Float}
 use lib.ListN.{length, set}
 use Rattle.number.proofs.Floats.{both_first, both_second}
-use Rattle.elementary.specs.declared.answer.Prepared.{Prepared}
+use Rattle.std.specs.Prelude.{Result}
+use Rattle.elementary.specs.declared.answer.Outside.{Outside}
 use Rattle.elementary.specs.Outcome.{Outcome, outside, inside, prepared_of}
 use Rattle.limits.specs.Limits.{status, entries_of, stage_of, generalized_of, number_for}
 
@@ -28,7 +29,7 @@ general_in n s e =
     (leb-true 1 n (both_first (leb 1 n) (leb n 65 && stage_of s) e), leb-true n 65 (both_first (leb n 65) (stage_of s) rest), stage_in s (both_second (leb n 65) (stage_of s) rest))
 
 -- the number of an answer is the status within the limits
-pub number_of : {A : Type 0} (d : Outcome A) (p : Prepared) (r : ℕ) → p ≡ prepared_of d → r ≡ number_for p → r ≡ status true d
+pub number_of : {A : Type 0} (d : Outcome A) (p : Result Unit Outside) (r : ℕ) → p ≡ prepared_of d → r ≡ number_for p → r ≡ status true d
 number_of outside p r e f = f ∙ ap number_for e
 number_of (inside a) p r e f = f ∙ ap number_for e
 

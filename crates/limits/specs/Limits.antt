@@ -1,7 +1,6 @@
 -- What the functions under C names answer and leave. Definitions only.
-use Rattle.std.specs.Prelude.{Bool, true, false, ◌&&◌, ℕ, leb, eqb}
-use Rattle.elementary.specs.declared.answer.Prepared.{Prepared}
-use Rattle.elementary.specs.declared.answer.Prepared.TheVariants as prepared
+use Rattle.std.specs.Prelude.{Bool, true, false, ◌&&◌, ℕ, leb, eqb, Result, Ok, Err}
+use Rattle.elementary.specs.declared.answer.Outside.{Outside}
 use Rattle.elementary.specs.Outcome.{Outcome, outside, inside, or_else}
 
 -- document 01's numbers: 0 done, 1 where a limit is broken, 9 outside
@@ -28,6 +27,6 @@ abbrev pub generalized_of : (n s : ℕ) → Bool
 generalized_of n s = leb 1 n && (leb n 65 && stage_of s)
 
 -- the number of an answer
-abbrev pub number_for : Prepared → ℕ
-number_for prepared.Inside = 0
-number_for prepared.Outside = 9
+abbrev pub number_for : Result Unit Outside → ℕ
+number_for (Ok u) = 0
+number_for (Err o) = 9

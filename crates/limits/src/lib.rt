@@ -4,7 +4,7 @@
 ghost use Rattle.std.specs.Prelude.{◌≡◌};
 ghost use Rattle.limits.specs.Limits.{entries_of, stage_of, generalized_of, number_for};
 
-use elementary::answer::Prepared;
+use elementary::answer::Outside;
 
 // From 2 to 64 entries, and m of the other slice as many.
 pub fn entries(n: usize, m: usize) -> bool
@@ -28,11 +28,11 @@ pub fn general(n: usize, s: u64) -> bool
 }
 
 // 0 done, 9 outside.
-pub fn number(prepared: Prepared) -> u64
+pub fn number(prepared: Result<(), Outside>) -> u64
     ensures { result ≡ number_for prepared }
 {
     match prepared {
-        Prepared::Inside => 0,
-        Prepared::Outside => 9,
+        Ok(()) => 0,
+        Err(Outside) => 9,
     }
 }

@@ -6,7 +6,7 @@
 
 ghost use Rattle.std.specs.Prelude.{◌≡◌, ◌+◌, ◌*◌, ◌≤◌, length};
 
-use elementary::answer::Prepared;
+use elementary::answer::Outside;
 use prepare::mel::prepare_mcp;
 use prepare::pairs::prepare_lsp;
 use std::io;
@@ -19,7 +19,7 @@ fn prepare(
     spectrum: &[f64],
     start: &mut [f64],
     targets: &mut [f64],
-) -> Prepared
+) -> Result<(), Outside>
     requires at_in_bounds { (at + 17 * 6 ≤ length text.now) × (stage ≤ 8) }
     requires in_bounds { (2 ≤ length spectrum.now) × (length spectrum.now ≤ 64) }
     requires start_len { (length start.old ≡ length spectrum.now) × (length targets.old ≡ length spectrum.now) }
@@ -36,10 +36,10 @@ fn prepare(
 }
 
 // The number of an answer.
-fn number(prepared: Prepared) -> u64 {
+fn number(prepared: Result<(), Outside>) -> u64 {
     match prepared {
-        Prepared::Inside => 0,
-        Prepared::Outside => 9,
+        Ok(()) => 0,
+        Err(Outside) => 9,
     }
 }
 
@@ -95,13 +95,7 @@ fn replay(rt: &impl Print, text: &[u8]) -> io::Result<()> {
     while 17 * 6 <= text.len() - at {
         let stage = words::word(text, at);
         let nmcp = words::word(text, at + 17 * 2) as usize;
-        if stage > 8 {
-            return Ok(());
-        }
-        if nmcp < 2 {
-            return Ok(());
-        }
-        if nmcp > 64 {
+        if stage > 8 || nmcp < 2 || nmcp > 64 {
             return Ok(());
         }
         let size = 17 * (6 + 2 * nmcp);
