@@ -56,15 +56,13 @@ pub extern "C" fn kipawnore_c2ir(c: &[f64], ir: &mut [f64]) -> u64
     ensures value { result ≡ status (eqb (length c.now) 576 && eqb (length ir.old) 576) (inside (c2ir_of 576 c.now)) }
     ensures ir_after { ir.new ≡ after (eqb (length c.now) 576 && eqb (length ir.old) 576) ir.old (inside (c2ir_of 576 c.now)) }
 {
-    if c.len() != 576 {
+    let Some(from) = c.as_array::<576>() else {
         return 1;
-    }
+    };
     if ir.len() != 576 {
         return 1;
     }
-    let mut from = [0.0; 576];
-    vectors::copy(c, &mut from);
-    let made = cepstrum::cepstrum::c2ir(&from);
+    let made = cepstrum::cepstrum::c2ir(from);
     vectors::copy(&made, ir);
     0
 }

@@ -11,7 +11,6 @@ ghost use Rattle.stability.specs.Stability.{stable_of};
 ghost use Rattle.postfilter.specs.Pairs.{postfilter_lsp_of};
 ghost use Rattle.limits.specs.Limits.{status, after, entries_of, stage_of, generalized_of};
 
-use elementary::answer::Answer;
 use limits::{entries, general, number, stage};
 
 #[unsafe(no_mangle)]
@@ -96,8 +95,7 @@ pub extern "C" fn kipawnore_lsp2en(lsp: &[f64], log: bool, s: u64, energy: &mut 
     if energy.len() != 1 {
         return 1;
     }
-    let en = lsp::lsp2en(lsp, log, s);
-    let Answer::Inside(x) = en else {
+    let Ok(x) = lsp::lsp2en(lsp, log, s) else {
         return 9;
     };
     energy[0] = x;
