@@ -1,5 +1,5 @@
--- What the tests say of lengths and stages, and the number of an answer. Assumes nothing.
-use mathlib.Core.Path.{◌≡◌, refl, ◌∙◌, ap}
+-- What the tests say of lengths and stages, and a slice of one entry. Assumes nothing.
+use mathlib.Core.Path.{◌≡◌, refl}
 use mathlib.Core.List.{List, [], ◌∷◌}
 use mathlib.Core.Bool.{true, ◌&&◌}
 use Prim.Native.Nat.{ℕ, ◌≤◌}
@@ -9,10 +9,7 @@ use lib.Dec.{leb, eqb}
 use lib.Ieee.{Float}
 use lib.ListN.{length, set}
 use Rattle.number.proofs.Floats.{both_first, both_second}
-use Rattle.std.specs.Prelude.{Result}
-use Rattle.elementary.specs.declared.answer.Outside.{Outside}
-use Rattle.elementary.specs.Outcome.{Outcome, outside, inside, prepared_of}
-use Rattle.limits.specs.Limits.{status, entries_of, stage_of, generalized_of, number_for}
+use Rattle.limits.specs.Limits.{entries_of, stage_of}
 
 pub entries_in : (n m : ℕ) → entries_of n m ≡ true → (2 ≤ n) × (n ≤ 64) × (m ≡ n) × (1 ≤ n)
 entries_in n m e =
@@ -22,16 +19,6 @@ entries_in n m e =
 
 pub stage_in : (s : ℕ) → stage_of s ≡ true → s ≤ 8
 stage_in s e = leb-true s 8 (both_second (leb 1 s) (leb s 8) e)
-
-pub general_in : (n s : ℕ) → generalized_of n s ≡ true → (1 ≤ n) × (n ≤ 65) × (s ≤ 8)
-general_in n s e =
-    let rest = both_second (leb 1 n) (leb n 65 && stage_of s) e in
-    (leb-true 1 n (both_first (leb 1 n) (leb n 65 && stage_of s) e), leb-true n 65 (both_first (leb n 65) (stage_of s) rest), stage_in s (both_second (leb n 65) (stage_of s) rest))
-
--- the number of an answer is the status within the limits
-pub number_of : {A : Type 0} (d : Outcome A) (p : Result Unit Outside) (r : ℕ) → p ≡ prepared_of d → r ≡ number_for p → r ≡ status true d
-number_of outside p r e f = f ∙ ap number_for e
-number_of (inside a) p r e f = f ∙ ap number_for e
 
 -- a slice of one entry
 pub one_entry : (l : List Float) (x : Float) → length l ≡ 1 → set l 0 x ≡ x ∷ []

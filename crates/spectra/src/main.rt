@@ -90,6 +90,7 @@ fn replay_in_arrays(
 }
 
 // Replays the cases, one after the other. Each has six words, and two more for each entry.
+// A while: the cases are of as many sizes, so that each says where the next one begins.
 fn replay(rt: &impl Print, text: &[u8]) -> io::Result<()> {
     let mut at = 0;
     while 17 * 6 <= text.len() - at {
