@@ -55,12 +55,7 @@ pub(crate) fn get_mixed(
 }
 
 // The same, with the line shifted.
-fn get_shifted(
-    pulse: &mut Pulse,
-    random: &mut Random,
-    line: &mut [f64],
-    lpf: &[f64],
-) -> Option<f64>
+fn get_shifted(pulse: &mut Pulse, random: &mut Random, line: &mut [f64], lpf: &[f64]) -> Option<f64>
     requires { 0 < length line.old }
     ensures line_after { sampled_of result (state pulse.new random.new line.new) ≡ mixed_step tries lpf.now (state pulse.old random.old line.old) }
     ensures unchanged { result ≡ None → state pulse.new random.new line.new ≡ state pulse.old random.old line.old }

@@ -15,7 +15,7 @@ use crate::window::by_pieces;
 use noise::Random;
 use pulse::Pulse;
 
-// What a stretch came to: how many samples were made, and the pulse train and the noise after the last of them.
+// What a stretch came to: how many samples were made, and the pulse train and the noise after the last of them. C takes it so.
 #[repr(C)]
 #[derive(Clone, Copy)]
 pub struct Filled {
@@ -65,5 +65,9 @@ pub fn stretch(
     } else {
         by_pieces(&mut pulse, &mut random, line, lpf, out)
     };
-    Filled { made, pulse, random }
+    Filled {
+        made,
+        pulse,
+        random,
+    }
 }

@@ -13,7 +13,7 @@ pub struct Try {
     pub next: u64,
 }
 
-// The state after a draw from `next`.
+// The state after a draw from `next`, by number's own wrapping functions: document 01 wants them here.
 fn draw(next: u64) -> u64
     ensures { result ≡ draw_of next }
 {

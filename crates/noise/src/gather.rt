@@ -1,4 +1,5 @@
 // A filling in passes over 32 pairs, so that the compiler makes vectors of the logarithms and of the estimates of the roots, and the roots overlap each other.
+// Arrays of numbers, not of tries: vectors are made of them, and `pairs_doubled` in specs/Gathering.antt speaks of them so.
 ghost use Rattle.std.specs.Prelude.{◌≡◌, ℕ, ◌<◌, T, length};
 ghost use Rattle.number.specs.F64.{◌‼◌};
 ghost use Rattle.root.specs.Root.{root_of};

@@ -11,7 +11,7 @@ mod pair;
 
 use crate::gather::{estimate, find_pairs, multiply, weigh};
 
-// The state of the noise: `next` of the draws, and 64 values, of which `used` are taken.
+// The state of the noise: `next` of the draws, and 64 values, of which `used` are taken. C knows its fields.
 #[repr(C)]
 #[derive(Clone, Copy)]
 pub struct Random {

@@ -5,7 +5,7 @@ ghost use Rattle.std.specs.Prelude.{◌≡◌, ◌≤◌, ◌^◌};
 ghost use Rattle.pulse.specs.Train.{fresh_pulse, start_of, pulse_of, end_of};
 
 // The pitch in samples, 0 where unvoiced; what has been counted since the last pulse; what the pitch gains with each sample; the
-// pitch that the frame ends at.
+// pitch that the frame ends at. No Option for the pitch here: C knows the four floats, and document 01 names them.
 #[repr(C)]
 #[derive(Clone, Copy)]
 pub struct Pulse {

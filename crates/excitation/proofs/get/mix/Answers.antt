@@ -11,7 +11,7 @@ use Rattle.excitation.proofs.get.mix.Goals.{Joined-pulse, then-pulse, else-pulse
 
 made : (c : Joined-pulse) → c.if-pulse.line ≡ mixed_line c.args.pulse.now c.args.noise c.args.lpf.now c.args.line.now
 made c = elim c.if-pulse.branch [
-  then-pulse w ↦
+  | then-pulse w ↦
       w.line-is ∙ mix_voiced c.args.pulse.now c.args.noise c.args.lpf.now c.args.line.now c.add_noise.new.line w.add_pulse.new.line w.next-pulsed.result w.if-pulse.true c.add_noise.ensures w.next-pulsed.ensures w.add_pulse.ensures
   | else-pulse w ↦ w.line-is ∙ c.add_noise.ensures ∙ sym (line_unvoiced c.args.pulse.now c.args.noise c.args.lpf.now c.args.line.now w.if-pulse.false)
 ]
@@ -21,7 +21,7 @@ returns-clause-value c = ap (λ (line : List Float). line ‼ 0) (made (goal.at.
 
 pub returns-clause-pulse_after : goal.returns-clause-pulse_after
 returns-clause-pulse_after c = elim c.if-pulse.branch [
-  then-pulse w ↦ w.pulse-is ∙ ap (λ (p : Pulsed). p.pulse) w.next-pulsed.ensures ∙ sym (after_voiced c.args.pulse.now w.if-pulse.true)
+  | then-pulse w ↦ w.pulse-is ∙ ap (λ (p : Pulsed). p.pulse) w.next-pulsed.ensures ∙ sym (after_voiced c.args.pulse.now w.if-pulse.true)
   | else-pulse w ↦ w.pulse-is ∙ sym (after_unvoiced c.args.pulse.now w.if-pulse.false)
 ]
 

@@ -47,7 +47,7 @@ returns-in_default c =
     let i = c.loop-i.i in
     record {
       state = ap (λ (s : Excitation). state s.pulse s.random (line_at i c.args.taps (put_row i (i + c.args.taps) s.line c.loop-i.window))) stays
-      ∙ ap (λ (w : List Float). state c.loop-i.pulse c.loop-i.random (line_at i c.args.taps w)) (same_window i c.args.taps c.loop-i.window) ∙ f.0;
+          ∙ ap (λ (w : List Float). state c.loop-i.pulse c.loop-i.random (line_at i c.args.taps w)) (same_window i c.args.taps c.loop-i.window) ∙ f.0;
       count = f.1;
       stand = f.2;
     }

@@ -18,7 +18,7 @@ returns-in_err-self-clause-value c =
 
 pub returns-clause-value : goal.returns-clause-value
 returns-clause-value c = elim c.if-self-ge64.branch [
-  then-self-ge64+in_ok-self w ↦
+  | then-self-ge64+in_ok-self w ↦
       let all_taken = le-ltb c.args.self.now.used 64 w.if-self-ge64.true in
       let full = ap (λ (r : Option ℕ). filled_of r w.fill_queue.new.queue) (sym w.in_ok-self.was) ∙ w.fill_queue.ensures.queue_after in
       ap take_from w.self-is ∙ value_filled tries c.args.self.now _ _ all_taken full
