@@ -9,6 +9,7 @@ ghost use Rattle.filter.specs.Zero as zero;
 ghost use Rattle.filter.specs.NonZero as nonzero;
 ghost use Rattle.export_filters.specs.Filters.{zero_fits, nonzero_fits, number_of, done_where};
 
+use filter::Course;
 use limits::{entries, stage};
 
 // n coefficients with m increments, and the lengths of d11, d12, d21 and d22.
@@ -62,7 +63,12 @@ pub extern "C" fn kipawnore_mlsa_stretch(
     ) {
         return 1;
     }
-    filter::zero::stretch_in(samples, c, increments, alpha, volume, d11, d12, d21, d22);
+    let course = Course {
+        increments,
+        alpha,
+        volume,
+    };
+    filter::zero::stretch_in(samples, c, course, d11, d12, d21, d22);
     0
 }
 
@@ -84,6 +90,11 @@ pub extern "C" fn kipawnore_mglsa_stretch(
     if !nonzero_fits(c.len(), increments.len(), stages, d.len()) {
         return 1;
     }
-    filter::nonzero::stretch_in(samples, c, increments, alpha, volume, stages as usize, d);
+    let course = Course {
+        increments,
+        alpha,
+        volume,
+    };
+    filter::nonzero::stretch_in(samples, c, course, stages as usize, d);
     0
 }

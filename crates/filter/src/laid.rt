@@ -6,15 +6,14 @@ ghost use Rattle.mlsa.specs.Laid.{flat};
 ghost use Rattle.filter.specs.Sample.{state};
 ghost use Rattle.filter.specs.Zero.{filtered_of};
 
+use crate::Course;
 use mlsa::layout;
 
 // One sample, which has its gain.
 fn sample(
     x: f64,
     c: &mut [f64],
-    increments: &[f64],
-    alpha: f64,
-    volume: f64,
+    course: Course<'_>,
     d11: &mut [f64],
     d12: &mut [f64],
     first: &mut [f64],
@@ -22,24 +21,22 @@ fn sample(
     d21: &mut [f64],
     d22: &mut [f64],
 ) -> f64
-    requires in_bounds { (2 ≤ length c.old) × (length increments.now ≡ length c.old) × (6 * length c.old ≤ length d21.old) }
+    requires in_bounds { (2 ≤ length c.old) × (length course.increments.now ≡ length c.old) × (6 * length c.old ≤ length d21.old) }
     requires c_in_bounds { (2 * length c.old ≤ length first.old) × (2 * length c.old ≤ length second.old) × (length d11.old ≡ 6) × (length d12.old ≡ 6) × (length d22.old ≡ 6) }
     ensures { (n : ℕ) → length c.old ≡ n
         → record { sample = result; state = state c.new (filter d11.new d12.new (flat n first.new second.new d21.new) d22.new) }
-        ≡ filtered_of alpha volume increments.now (state c.old (filter d11.old d12.old (flat n first.old second.old d21.old) d22.old)) x }
+        ≡ filtered_of course.entry.alpha course.entry.volume course.entry.increments.now (state c.old (filter d11.old d12.old (flat n first.old second.old d21.old) d22.old)) x }
 {
-    let y = mlsa::df_laid(d11, d12, first, second, d21, d22, x, alpha, c);
-    vectors::add(c, increments);
-    y * volume
+    let y = mlsa::df_laid(d11, d12, first, second, d21, d22, x, course.alpha, c);
+    vectors::add(c, course.increments);
+    y * course.volume
 }
 
 // The samples of a stretch, which have their gains.
 fn samples_in(
     samples: &mut [f64],
     c: &mut [f64],
-    increments: &[f64],
-    alpha: f64,
-    volume: f64,
+    course: Course<'_>,
     d11: &mut [f64],
     d12: &mut [f64],
     first: &mut [f64],
@@ -47,16 +44,16 @@ fn samples_in(
     d21: &mut [f64],
     d22: &mut [f64],
 )
-    requires in_bounds { (2 ≤ length c.old) × (length increments.now ≡ length c.old) × (6 * length c.old ≤ length d21.old) }
+    requires in_bounds { (2 ≤ length c.old) × (length course.increments.now ≡ length c.old) × (6 * length c.old ≤ length d21.old) }
     requires c_in_bounds { (2 * length c.old ≤ length first.old) × (2 * length c.old ≤ length second.old) × (length d11.old ≡ 6) × (length d12.old ≡ 6) × (length d22.old ≡ 6) }
     ensures { passage samples.new
         (state c.new (filter d11.new d12.new (flat (length c.old) first.new second.new d21.new) d22.new))
-        ≡ through (filtered_of alpha volume increments.now)
+        ≡ through (filtered_of course.entry.alpha course.entry.volume course.entry.increments.now)
         (state c.old (filter d11.old d12.old (flat (length c.old) first.old second.old d21.old) d22.old)) samples.old }
 {
     for x in samples.iter_mut() {
         let y = sample(
-            *x, c, increments, alpha, volume, d11, d12, first, second, d21, d22,
+            *x, c, course, d11, d12, first, second, d21, d22,
         );
         *x = y;
     }
@@ -66,9 +63,7 @@ fn samples_in(
 pub(crate) fn between(
     samples: &mut [f64],
     c: &mut [f64],
-    increments: &[f64],
-    alpha: f64,
-    volume: f64,
+    course: Course<'_>,
     d11: &mut [f64],
     d12: &mut [f64],
     first: &mut [f64],
@@ -76,16 +71,16 @@ pub(crate) fn between(
     d21: &mut [f64],
     d22: &mut [f64],
 )
-    requires in_bounds { (2 ≤ length c.old) × (length increments.now ≡ length c.old) × (6 * length c.old ≤ length d21.old) }
+    requires in_bounds { (2 ≤ length c.old) × (length course.increments.now ≡ length c.old) × (6 * length c.old ≤ length d21.old) }
     requires c_in_bounds { (2 * length c.old ≤ length first.old) × (2 * length c.old ≤ length second.old) × (length d11.old ≡ 6) × (length d12.old ≡ 6) × (length d22.old ≡ 6) }
     ensures { passage samples.new (state c.new (filter d11.new d12.new d21.new d22.new))
-        ≡ through (filtered_of alpha volume increments.now)
+        ≡ through (filtered_of course.entry.alpha course.entry.volume course.entry.increments.now)
         (state c.old (filter d11.old d12.old d21.old d22.old)) samples.old }
 {
     let n = c.len();
     layout::lay(first, second, d21, n);
     samples_in(
-        samples, c, increments, alpha, volume, d11, d12, first, second, d21, d22,
+        samples, c, course, d11, d12, first, second, d21, d22,
     );
     layout::lay_back(d21, first, second, n);
 }

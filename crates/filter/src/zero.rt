@@ -5,6 +5,7 @@ ghost use Rattle.mlsa.specs.Mlsa.{filter};
 ghost use Rattle.filter.specs.Sample.{state};
 ghost use Rattle.filter.specs.Zero.{sample_of};
 
+use crate::Course;
 use crate::gains::gains;
 use crate::laid::between;
 use mlsa::MelLogSpectrumApproximation;
@@ -13,31 +14,27 @@ use mlsa::MelLogSpectrumApproximation;
 pub fn stretch_in(
     samples: &mut [f64],
     c: &mut [f64],
-    increments: &[f64],
-    alpha: f64,
-    volume: f64,
+    course: Course<'_>,
     d11: &mut [f64],
     d12: &mut [f64],
     d21: &mut [f64],
     d22: &mut [f64],
 )
-    requires in_bounds { (2 ≤ length c.old) × (length increments.now ≡ length c.old) × (6 * length c.old ≤ length d21.old) × (length c.old ≤ 64) }
+    requires in_bounds { (2 ≤ length c.old) × (length course.increments.now ≡ length c.old) × (6 * length c.old ≤ length d21.old) × (length c.old ≤ 64) }
     requires d11_len { (length d11.old ≡ 6) × (length d12.old ≡ 6) × (length d22.old ≡ 6) }
     ensures { passage samples.new (state c.new (filter d11.new d12.new d21.new d22.new))
-        ≡ through (sample_of alpha volume increments.now)
+        ≡ through (sample_of course.entry.alpha course.entry.volume course.entry.increments.now)
         (state c.old (filter d11.old d12.old d21.old d22.old)) samples.old }
 {
     let c0 = c[0];
-    let increment = increments[0];
+    let increment = course.increments[0];
     gains(samples, c0, increment);
     let mut first = [0.0; 128];
     let mut second = [0.0; 128];
     between(
         samples,
         c,
-        increments,
-        alpha,
-        volume,
+        course,
         d11,
         d12,
         &mut first,
@@ -52,20 +49,18 @@ fn part(
     f: MelLogSpectrumApproximation,
     samples: &mut [f64],
     c: &mut [f64],
-    increments: &[f64],
-    alpha: f64,
-    volume: f64,
+    course: Course<'_>,
 ) -> MelLogSpectrumApproximation
-    requires { (2 ≤ length c.old) × (length c.old ≤ 64) × (length increments.now ≡ length c.old) }
+    requires { (2 ≤ length c.old) × (length c.old ≤ 64) × (length course.increments.now ≡ length c.old) }
     ensures { passage samples.new (state c.new result)
-        ≡ through (sample_of alpha volume increments.now) (state c.old f) samples.old }
+        ≡ through (sample_of course.entry.alpha course.entry.volume course.entry.increments.now) (state c.old f) samples.old }
 {
     let mut d11 = f.d11;
     let mut d12 = f.d12;
     let mut d21 = f.d21;
     let mut d22 = f.d22;
     stretch_in(
-        samples, c, increments, alpha, volume, &mut d11, &mut d12, &mut d21, &mut d22,
+        samples, c, course, &mut d11, &mut d12, &mut d21, &mut d22,
     );
     MelLogSpectrumApproximation { d11, d12, d21, d22 }
 }
@@ -86,6 +81,11 @@ pub fn stretch(
 {
     let n = samples.len();
     let half = n / 2;
-    let middle = part(f, &mut samples[0..half], c, increments, alpha, volume);
-    part(middle, &mut samples[half..n], c, increments, alpha, volume)
+    let course = Course {
+        increments,
+        alpha,
+        volume,
+    };
+    let middle = part(f, &mut samples[0..half], c, course);
+    part(middle, &mut samples[half..n], c, course)
 }

@@ -11,5 +11,5 @@ use Rattle.filter.proofs.laid.samples_in.Given as goal
 
 abbrev pub invariant-loop-x : goal.invariant-loop-x
 invariant-loop-x l =
-    from_here (filtered_of l.alpha l.volume l.increments) l.x-index (state l.c (filter l.d11 l.d12 (flat (length l.initial.c) l.first l.second l.d21) l.d22)) l.samples
-    ≡ through (filtered_of l.alpha l.volume l.increments) (state l.initial.c (filter l.initial.d11 l.initial.d12 (flat (length l.initial.c) l.initial.first l.initial.second l.initial.d21) l.initial.d22)) l.initial.samples
+    from_here (filtered_of l.course.alpha l.course.volume l.course.increments.now) l.x-index (state l.c (filter l.d11 l.d12 (flat (length l.initial.c) l.first l.second l.d21) l.d22)) l.samples
+    ≡ through (filtered_of l.course.alpha l.course.volume l.course.increments.now) (state l.initial.c (filter l.initial.d11 l.initial.d12 (flat (length l.initial.c) l.initial.first l.initial.second l.initial.d21) l.initial.d22)) l.initial.samples

@@ -8,4 +8,4 @@ use Rattle.filter.proofs.nonzero.stretch_in.Given as goal
 
 abbrev pub invariant-loop-x : goal.invariant-loop-x
 invariant-loop-x l =
-    from_here (sample_of l.alpha l.stages l.volume l.increments) l.x-index (state l.c l.d) l.samples ≡ through (sample_of l.alpha l.stages l.volume l.increments) (state l.initial.c l.initial.d) l.initial.samples
+    from_here (sample_of l.course.alpha l.stages l.course.volume l.course.increments.now) l.x-index (state l.c l.d) l.samples ≡ through (sample_of l.course.alpha l.stages l.course.volume l.course.increments.now) (state l.initial.c l.initial.d) l.initial.samples

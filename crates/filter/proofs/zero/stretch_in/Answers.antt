@@ -12,5 +12,5 @@ pub returns : goal.returns
 returns c =
     let s = state c.args.c.now (filter c.args.d11.now c.args.d12.now c.args.d21.now c.args.d22.now) in
     c.between.ensures
-    ∙ ap (through (filtered_of c.args.alpha c.args.volume c.args.increments.now) s) c.gains.ensures
-    ∙ gains_first c.args.alpha c.args.volume c.args.increments.now s c.args.samples.now (omega arith)
+    ∙ ap (through (filtered_of c.args.course.alpha c.args.course.volume c.args.course.increments.now) s) c.gains.ensures
+    ∙ gains_first c.args.course.alpha c.args.course.volume c.args.course.increments.now s c.args.samples.now (omega arith)
