@@ -1,4 +1,5 @@
-// What C and Rust reach of the filters, under C names. Each function is the stretch that it calls, behind a test of its lengths.
+// What C and Rust reach of the filters, under C names. Each function is the stretch that it calls, behind a test of its lengths. C wants the number, 0 or 1,
+// and the arguments one by one.
 #![tactic(auto)]
 
 ghost use Rattle.std.specs.Prelude.{◌≡◌, length};

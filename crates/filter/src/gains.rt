@@ -14,7 +14,7 @@ fn gain(x: f64, rest: f64, power: f64) -> f64
     if x != 0.0 { loud } else { x }
 }
 
-// The parts of the first n exps, and c0 after them.
+// The parts of the first n exps, and c0 after them. The arrays are of fixed size, for want of a heap.
 fn prepare(rests: &mut [f64], powers: &mut [f64], n: usize, start: f64, increment: f64) -> f64
     requires { (n ≤ length rests.old) × (n ≤ length powers.old) }
     ensures { (result ≡ on_by increment start n) × Prepared increment start n rests.new powers.new }
@@ -54,7 +54,7 @@ fn block(samples: &mut [f64], start: f64, increment: f64) -> f64
     c0
 }
 
-// The gains of all samples, with c0 from `start` on.
+// The gains of all samples, with c0 from `start` on. By step_by: of `chunks_mut` a proof knows no element after the loop.
 pub(crate) fn gains(samples: &mut [f64], start: f64, increment: f64)
     ensures { samples.new ≡ (through (gain_of increment) start samples.old).made }
 {

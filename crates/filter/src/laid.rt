@@ -1,4 +1,5 @@
 // Stage 0 after the gains, with the first four rows of taps laid side by side, in two pairs, during a stretch. What it comes to is what `zero` says.
+// `nonzero` has its own loop over the samples: what the two share is one call and one line.
 ghost use Rattle.std.specs.Prelude.{◌≡◌, ℕ, ◌*◌, ◌≤◌, ◌<◌, length};
 ghost use Rattle.history.specs.Through.{passage, through};
 ghost use Rattle.mlsa.specs.Mlsa.{filter};

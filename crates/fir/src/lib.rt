@@ -1,4 +1,5 @@
 // The steps of the filter `fir` of mlsa.rs: the first two taps, four taps at once, one tap. `lanes::five` takes five rows through all of them.
+// `lanes` has its own `start`, `group` and `tap`: a trait over both, with its laws, would be longer than the three functions that it joins.
 #![tactic(auto)]
 
 ghost use Rattle.std.specs.Prelude.{◌≡◌, [], ◌∷◌, ◌+◌, ◌<◌, length};

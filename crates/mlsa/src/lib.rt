@@ -1,4 +1,5 @@
-// The filter of stage 0, mlsa.rs: two parts of five rows each, weighed by the constants of a Padé approximation.
+// The filter of stage 0, mlsa.rs: two parts of five rows each, weighed by the constants of a Padé approximation. The lists are lent one by one, as the
+// function under its C name has them, which may be shorter than the filter's own: a struct of `&mut` would want a clause for each reference.
 #![tactic(auto)]
 
 ghost use Rattle.std.specs.Prelude.{◌≡◌, List, Float, ◌*◌, ◌≤◌, ◌<◌, length};
