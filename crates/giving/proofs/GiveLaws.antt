@@ -7,8 +7,6 @@ use Prim.Native.Nat.{ℕ, zero, suc}
 use native.Mathlib.Omega.{arith}
 use lib.ListN.{length, take, drop}
 use lib.Ieee.{Float}
-use Rattle.elementary.specs.declared.answer.Prepared.{Prepared}
-use Rattle.elementary.specs.declared.answer.Prepared.TheVariants as prepared
 use Rattle.elementary.specs.Outcome.{Outcome, outside, inside, prepared_of}
 use Rattle.prepare.specs.Preparing.{Spectra, start_after, targets_after}
 use Rattle.pulse.specs.declared.Pulse.{Pulse}
@@ -65,7 +63,7 @@ module _ (f : Frame) (v : Voice) where
             nonzero = v.nonzero;
           }
 
-      pub accepts_inside : (d : Outcome Spectra) → d ≡ asked → prepared_of d ≡ prepared.Inside → start ≡ start_after (lent_to v.coefficients) d → targets ≡ targets_after (lent_to v.targets) d
+      pub accepts_inside : (d : Outcome Spectra) → d ≡ asked → prepared_of d ≡ Ok tt → start ≡ start_after (lent_to v.coefficients) d → targets ≡ targets_after (lent_to v.targets) d
           → increments ≡ increments_after v.configuration.fperiod (lent_to v.increments) d → Accepts f v (Ok built)
       unfolding refusal prepared given begun
       accepts_inside outside a i s t h = let z : ◌≡◌ {A = ℕ} 0 1 = cc in absurd (omega arith)

@@ -5,7 +5,7 @@ ghost use Rattle.prepare.specs.Preparing.{start_after, targets_after};
 ghost use Rattle.giving.specs.Begin.{prepared_for, increments_of, increments_after};
 
 use configuration::Configuration;
-use elementary::answer::Prepared;
+use elementary::answer::Outside;
 use prepare::mel::prepare_mcp;
 use prepare::pairs::prepare_lsp;
 
@@ -16,7 +16,7 @@ fn coefficients(
     spectrum: &[f64],
     start: &mut [f64],
     targets: &mut [f64],
-) -> Prepared
+) -> Result<(), Outside>
     requires in_bounds { (2 ≤ length spectrum.now) × (length spectrum.now ≤ 64) × (configuration.stage ≤ 8) }
     requires start_len { (length start.old ≡ length spectrum.now) × (length targets.old ≡ length spectrum.now) }
     ensures value { result ≡ prepared_of (prepared_for configuration first start.old spectrum.now) }
@@ -51,7 +51,7 @@ pub fn begin(
     start: &mut [f64],
     targets: &mut [f64],
     increments: &mut [f64],
-) -> Prepared
+) -> Result<(), Outside>
     requires in_bounds { (2 ≤ length spectrum.now) × (length spectrum.now ≤ 64) × (configuration.stage ≤ 8) × (configuration.fperiod ≤ 4800) }
     requires start_len { (length start.old ≡ length spectrum.now) × (length targets.old ≡ length spectrum.now) × (length increments.old ≡ length spectrum.now) }
     ensures value { result ≡ prepared_of (prepared_for configuration first start.old spectrum.now) }
@@ -60,10 +60,7 @@ pub fn begin(
     ensures increments_after { increments.new
         ≡ increments_after configuration.fperiod increments.old (prepared_for configuration first start.old spectrum.now) }
 {
-    let prepared = coefficients(configuration, first, spectrum, start, targets);
-    let Prepared::Inside = prepared else {
-        return Prepared::Outside;
-    };
+    coefficients(configuration, first, spectrum, start, targets)?;
     ramp(targets, start, configuration.fperiod, increments);
-    Prepared::Inside
+    Ok(())
 }

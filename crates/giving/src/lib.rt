@@ -10,23 +10,21 @@ ghost use Rattle.giving.specs.Give.{Accepts, Gives};
 
 use begin::begin;
 use configuration::Configuration;
-use elementary::answer::Prepared;
 use number::range::clamp;
-use pulse::Pitch;
 use refusing::{Frame, refusal};
 use voice::answers::{DONE, Refusal};
 use voice::{Answered, Voice};
 
-// The pitch of a frame: unvoiced where its log F0 is the no-data number.
-fn pitch(configuration: Configuration, lf0: f64) -> Pitch
+// The period of a frame in samples, none where its log F0 is the no-data number.
+fn pitch(configuration: Configuration, lf0: f64) -> Option<f64>
     requires { configuration.rate ≤ 192000 }
     ensures { result ≡ pitch_of configuration lf0 }
 {
     if lf0 == configuration.nodata {
-        return Pitch::Unvoiced;
+        return None;
     }
     let clamped = clamp(lf0, configuration.low, configuration.high);
-    Pitch::Voiced(configuration.rate as f64 / exponential::exp(clamped))
+    Some(configuration.rate as f64 / exponential::exp(clamped))
 }
 
 // The voice after a frame, where no row of the table refuses it.
@@ -39,17 +37,14 @@ pub fn accepted(voice: &Voice, frame: Frame) -> Result<Voice, Refusal>
     let mut coefficients = voice.coefficients;
     let mut targets = voice.targets;
     let mut increments = voice.increments;
-    let begun = begin(
+    begin(
         configuration,
         voice.first,
         frame.spectrum,
         &mut coefficients[..nmcp],
         &mut targets[..nmcp],
         &mut increments[..nmcp],
-    );
-    let Prepared::Inside = begun else {
-        return Err(Refusal::ArgumentOutside);
-    };
+    )?;
     let mut lpf = voice.lpf;
     lpf[..configuration.nlpf].copy_from_slice(frame.lpf);
     let pitch = pitch(configuration, frame.lf0);

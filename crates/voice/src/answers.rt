@@ -1,6 +1,9 @@
 // What the calls answer, as document 01's table has it: done, or the refusal of a row.
 ghost use Rattle.std.specs.Prelude.{◌≡◌};
 ghost use Rattle.voice.specs.Answers.{number_of};
+ghost use Rattle.voice.specs.declared.answers.Refusal.TheVariants.{ArgumentOutside};
+
+use elementary::answer::Outside;
 
 // Done.
 pub const DONE: u64 = 0;
@@ -44,5 +47,13 @@ impl Refusal {
         ensures { result ≡ number_of self }
     {
         self as u64
+    }
+}
+
+impl From<Outside> for Refusal {
+    ghost from_gives = { λ _ refusal. refusal ≡ ArgumentOutside };
+
+    fn from(_outside: Outside) -> Self {
+        Self::ArgumentOutside
     }
 }

@@ -61,19 +61,21 @@ slice_bounds-increments-end c = long_increments (goal.at.slice_bounds-increments
 pub slice_bounds-begin-end-3 : goal.slice_bounds-begin-end-3
 slice_bounds-begin-end-3 c = sym (length-take-le _ _ (long_increments (goal.at.slice_bounds-begin-end-3 c).In_ok-refusal))
 
-pub begin-begun-requires : goal.begin-begun-requires
-begin-begun-requires c =
-    let here = (goal.at.begin-begun-requires c).In_ok-refusal in
+pub begin-requires : goal.begin-requires
+begin-requires c =
+    let here = (goal.at.begin-requires c).In_ok-refusal in
     let entries = (fits here).entries in
     record {
       in_bounds = (omega (arith, entries, (size here).nmcp_least), omega (arith, entries, (size here).nmcp_most), (size here).stage_most, (size here).fperiod_most);
       start_len = (length-take-le _ _ (long_coefficients here) ∙ sym entries, length-take-le _ _ (long_targets here) ∙ sym entries, length-take-le _ _ (long_increments here) ∙ sym entries);
     }
 
-pub returns-in_default : goal.returns-in_default
-returns-in_default c =
-    accepts_outside (frame_of c.args.frame) c.args.voice.now (none (goal.at.returns-in_default c).In_ok-refusal)
-    (is_outside (asked (frame_of c.args.frame) c.args.voice.now) _ c.begin-begun.ensures.value c.in_default.is)
+pub returns-in_err-begin : goal.returns-in_err-begin
+returns-in_err-begin c =
+    let p = err_from_is_err_and c.from_residual-in_err-begin.result c.from_residual-in_err-begin.ensures.1 in
+    rw (p.1, p.2)
+    (accepts_outside (frame_of c.args.frame) c.args.voice.now (none (goal.at.returns-in_err-begin c).In_ok-refusal)
+    (is_outside (asked (frame_of c.args.frame) c.args.voice.now) _ c.begin.ensures.value c.in_err-begin.was))
 
 pub slice_bounds-lpf-end : goal.slice_bounds-lpf-end
 slice_bounds-lpf-end c = long_lpf (goal.at.slice_bounds-lpf-end c).In_ok-refusal
@@ -93,9 +95,9 @@ start-requires c = omega (arith, (size (goal.at.start-requires c).In_ok-refusal)
 pub returns : goal.returns
 returns c =
     let here = (goal.at.returns c).In_ok-refusal in
-    let n : length c.begin-begun.new.start ≡ c.args.voice.now.configuration.nmcp = c.begin-begun.auto.start ∙ length-take-le _ _ (long_coefficients here) in
-    let k : length c.begin-begun.new.targets ≡ c.args.voice.now.configuration.nmcp = c.begin-begun.auto.targets ∙ length-take-le _ _ (long_targets here) in
-    let m : length c.begin-begun.new.increments ≡ c.args.voice.now.configuration.nmcp = c.begin-begun.auto.increments ∙ length-take-le _ _ (long_increments here) in
+    let n : length c.begin.new.start ≡ c.args.voice.now.configuration.nmcp = c.begin.auto.start ∙ length-take-le _ _ (long_coefficients here) in
+    let k : length c.begin.new.targets ≡ c.args.voice.now.configuration.nmcp = c.begin.auto.targets ∙ length-take-le _ _ (long_targets here) in
+    let m : length c.begin.new.increments ≡ c.args.voice.now.configuration.nmcp = c.begin.auto.increments ∙ length-take-le _ _ (long_increments here) in
     rw c.copy_from_slice.ensures.after
     (accepts_inside (frame_of c.args.frame) c.args.voice.now (none here) _ _ _ _ (rw c.pitch-pitch.ensures at c.start.ensures) n m k (fits here).taps
-    (asked (frame_of c.args.frame) c.args.voice.now) refl (sym c.begin-begun.ensures.value ∙ c.in-Inside.is) c.begin-begun.ensures.start_after c.begin-begun.ensures.targets_after c.begin-begun.ensures.increments_after)
+    (asked (frame_of c.args.frame) c.args.voice.now) refl (sym c.begin.ensures.value ∙ c.in_ok-begin.was) c.begin.ensures.start_after c.begin.ensures.targets_after c.begin.ensures.increments_after)
