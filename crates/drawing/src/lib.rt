@@ -13,7 +13,7 @@ use sound::sound;
 use voice::Voice;
 use voice::answers::{DONE, Refusal};
 
-// What draw and whole frame answer: a number of the table, the count of samples made, and the voice after them.
+// What draw and whole frame answer: a number of the table, the count of samples made, and the voice after them. C reads the number.
 #[repr(C)]
 #[derive(Clone, Copy)]
 pub struct Drawn {

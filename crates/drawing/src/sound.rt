@@ -1,4 +1,5 @@
 // The samples of a part of a frame. A voice is large, so only two are built on the way: one with the excitation and the counts, and one with the rest.
+// That the limits are kept stands in five contracts: a type for it would be taken off and put on around each change of the voice, and C hands in none.
 ghost use Rattle.std.specs.Prelude.{◌≡◌, true, ◌+◌, ◌≤◌, ◌<◌, length, take};
 ghost use Rattle.number.specs.Lists.{over};
 ghost use Rattle.history.specs.Steps.{steps};

@@ -10,6 +10,7 @@ ghost use Rattle.rest.specs.Rest.{Saves, Restores};
 
 use configuration::Configuration;
 use drawing::Drawn;
+use refusing::Frame;
 use rest::Saved;
 use voice::{Answered, Voice};
 
@@ -24,7 +25,12 @@ pub extern "C" fn kipawnore_open(configuration: Configuration) -> Answered
 pub extern "C" fn kipawnore_give(voice: Voice, lf0: f64, spectrum: &[f64], lpf: &[f64]) -> Answered
     ensures { Gives (frame lf0 spectrum.now lpf.now) voice result }
 {
-    giving::give(voice, lf0, spectrum, lpf)
+    let frame = Frame {
+        lf0,
+        spectrum,
+        lpf,
+    };
+    giving::give(voice, frame)
 }
 
 #[unsafe(no_mangle)]
@@ -45,7 +51,12 @@ pub extern "C" fn kipawnore_whole_frame(
 ) -> Drawn
     ensures { Renders (frame lf0 spectrum.now lpf.now) voice out.old start result out.new }
 {
-    whole::whole_frame(voice, lf0, spectrum, lpf, out, start)
+    let frame = Frame {
+        lf0,
+        spectrum,
+        lpf,
+    };
+    whole::whole_frame(voice, frame, out, start)
 }
 
 #[unsafe(no_mangle)]

@@ -11,8 +11,7 @@ use Rattle.number.specs.Range.{clamp_of}
 use Rattle.exponential.specs.Exp.{exp_of}
 use Rattle.elementary.specs.Outcome.{Outcome, outside, inside}
 use Rattle.pulse.specs.declared.Pulse.{Pulse}
-use Rattle.pulse.specs.declared.Pitch.{Pitch}
-use Rattle.pulse.specs.declared.Pitch.TheVariants.{Unvoiced, Voiced}
+use Rattle.std.specs.Prelude.{Option, None, Some}
 use Rattle.pulse.specs.Train.{period_of, train, voiced, start_of}
 use Rattle.prepare.specs.Preparing.{Spectra}
 use Rattle.configuration.specs.declared.Configuration.{Configuration}
@@ -32,9 +31,9 @@ unfolding pitch_of
 period_held c lf0 =
     let rate = of_int binary64 (pos c.rate) in
     let e = exp_of (clamp_of lf0 c.low c.high) in
-    either (λ (p : Pitch). Holds (period_of p)) (eq lf0 c.nodata) Unvoiced (Voiced (rate ⊘ e)) zero_held (div-fits binary64 rate e)
+    either (λ (p : Option Float). Holds (period_of p)) (eq lf0 c.nodata) None (Some (rate ⊘ e)) zero_held (div-fits binary64 rate e)
 
-start_held : (t : Pulse) (pitch : Pitch) (fperiod : ℕ) → HeldPulse t → Holds (period_of pitch) → HeldPulse (start_of t pitch fperiod)
+start_held : (t : Pulse) (pitch : Option Float) (fperiod : ℕ) → HeldPulse t → Holds (period_of pitch) → HeldPulse (start_of t pitch fperiod)
 unfolding start_of
 start_held t pitch fperiod h k =
     let p = period_of pitch in

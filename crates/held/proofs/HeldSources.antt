@@ -7,8 +7,8 @@ use Rattle.history.specs.Steps.{Step}
 use Rattle.root.specs.Root.{root_of}
 use Rattle.root.proofs.Laws.{root_fits}
 use Rattle.noise.specs.declared.Random.{Random}
-use Rattle.noise.specs.declared.pair.Found.{Found}
-use Rattle.noise.specs.declared.pair.Found.TheVariants as found
+use Rattle.std.specs.Prelude.{Option, None, Some}
+use Rattle.noise.specs.declared.draw.Try.{Try}
 use Rattle.noise.specs.Noise.{found_of, multiplier_of, pair_step, pair_of, noise_of}
 use Rattle.pulse.specs.declared.Pulse.{Pulse}
 use Rattle.pulse.specs.declared.Pulsed.{Pulsed}
@@ -46,9 +46,9 @@ end_held t h = record { pitch = h.end; counter = h.counter; increment = h.increm
 
 -- ---- the noise
 
-pair_held : (f : Found) → Made AllHeld (λ (n : ℕ). Unit {0}) (pair_step f)
-pair_held found.Dry = tt
-pair_held (found.Pair t) = ((mul-fits binary64 t.r1 (multiplier_of t.s), (mul-fits binary64 t.r2 (multiplier_of t.s), tt)), tt)
+pair_held : (f : Option Try) → Made AllHeld (λ (n : ℕ). Unit {0}) (pair_step f)
+pair_held None = tt
+pair_held (Some t) = ((mul-fits binary64 t.r1 (multiplier_of t.s), (mul-fits binary64 t.r2 (multiplier_of t.s), tt)), tt)
 
 one_pair : (bound next : ℕ) → Made AllHeld (λ (n : ℕ). Unit {0}) (pair_of bound next)
 unfolding pair_of

@@ -7,8 +7,8 @@ use lib.Ieee.{Float, binary64, eq, ne}
 use lib.Ieee.Bits.{of_bits-fits}
 use lib.Ieee.Fits.{cond-fits, add-fits, sub-fits, div-fits}
 use Rattle.number.specs.F64.{◌⊕◌, ◌⊖◌, ◌⊗◌, ◌⊘◌, ◌‼◌, 0f, 1f, 2f}
-use Rattle.elementary.specs.declared.answer.Answer.{Answer}
-use Rattle.elementary.specs.declared.answer.Answer.TheVariants as answer
+use Rattle.std.specs.Prelude.{Result, Ok, Err}
+use Rattle.elementary.specs.declared.answer.Outside.{Outside}
 use Rattle.elementary.specs.Outcome.{inside, ◌then◌, of_answer}
 use Rattle.elementary.specs.Exact.{power_inside}
 use Rattle.logarithm.specs.Ln.{ln_of}
@@ -83,7 +83,7 @@ power_held : (a : Float) (s : ℕ) → Inside Holds (of_answer (inverse_power_of
 unfolding inverse_power_of
 power_held a s =
     let y = 1f ⊘ products a a (s - 1) in
-    either (λ (r : Answer). Inside Holds (of_answer r)) (power_inside a s) (answer.Inside (cond (eq a 1f) 1f y)) answer.Outside
+    either (λ (r : Result Float Outside). Inside Holds (of_answer r)) (power_inside a s) (Ok (cond (eq a 1f) 1f y)) (Err (record {}))
     (cond-fits binary64 (eq a 1f) 1f y (of_bits-fits binary64 0x3ff0_0000_0000_0000) (div-fits binary64 1f (products a a (s - 1)))) tt
 
 gnorm_held : (s : ℕ) (c : List Float) → Inside AllHeld (gnorm_of s c)

@@ -3,15 +3,13 @@
 // numbers show a limit, or another way to a number. README.md says what each number stands for here.
 #![tactic(auto)]
 
-ghost use Rattle.std.specs.Prelude.{◌≡◌, ◌+◌, ◌≤◌, ◌<◌, length};
+ghost use Rattle.std.specs.Prelude.{◌≡◌, ◌+◌, ◌≤◌, length};
 
 use configuration::Configuration;
+use refusing::Frame;
 use std::io;
 use voice::Voice;
-use voice::answers::{
-    ARGUMENT_OUTSIDE, BUFFER_SHORT, DONE, ENTRY_BEYOND, METER_FULL, NOT_FINITE, NOTHING_LEFT,
-    SAMPLES_LEFT, SPECTRUM_LENGTH, TAP_COUNT, VOICE_IDLE,
-};
+use voice::answers::Refusal;
 
 // The samples of one frame, and of as many as the meter has room for: 5 divides it, and 2^63 - 1 is 2 more.
 const ONE_FRAME: u64 = 5;
@@ -61,12 +59,18 @@ fn print_named(rt: &impl Print, call: &[u8], name: &[u8], number: u64) -> io::Re
     print_number(rt, number)
 }
 
-// Writes a line for a situation in which a and b apply.
-fn print_pair(rt: &impl Print, call: &[u8], a: u64, b: u64, number: u64) -> io::Result<()> {
+// Writes a line for a situation in which these refusals apply.
+fn print_these(rt: &impl Print, call: &[u8], these: &[Refusal], number: u64) -> io::Result<()> {
     rt.write_all(call)?;
-    print!(rt; " {a}")?;
-    if a != b {
-        print!(rt; " and {b}")?;
+    if these.is_empty() {
+        print!(rt; " 0")?;
+    }
+    for (i, refusal) in these.iter().enumerate() {
+        if i > 0 {
+            print!(rt; " and")?;
+        }
+        let row = refusal.number();
+        print!(rt; " {row}")?;
     }
     print_number(rt, number)
 }
@@ -128,11 +132,6 @@ fn open_with_floats(rt: &impl Print) -> io::Result<()> {
     open(rt, b"no-data not a number", c)
 }
 
-// Whether a number is one of the two that are to apply.
-fn applies(number: u64, a: u64, b: u64) -> bool {
-    (number == a) | (number == b)
-}
-
 // A length, or one more.
 fn size(least: usize, more: bool) -> usize
     requires { least ≤ 4 }
@@ -166,18 +165,18 @@ fn voice_where(idle: bool, left: bool, full: bool) -> Voice {
     voice
 }
 
-// The voice of a situation in which a and b apply, as far as a voice has to do with them.
-fn voice_of(a: u64, b: u64) -> Voice {
+// The voice of a situation in which these apply, as far as a voice has to do with them.
+fn voice_of(these: &[Refusal]) -> Voice {
     voice_where(
-        applies(VOICE_IDLE, a, b),
-        applies(SAMPLES_LEFT, a, b),
-        applies(METER_FULL, a, b),
+        these.contains(&Refusal::VoiceIdle),
+        these.contains(&Refusal::SamplesLeft),
+        these.contains(&Refusal::MeterFull),
     )
 }
 
 // The log F0 of such a situation.
-fn lf0_of(a: u64, b: u64) -> f64 {
-    if applies(NOT_FINITE, a, b) {
+fn lf0_of(these: &[Refusal]) -> f64 {
+    if these.contains(&Refusal::NotFinite) {
         1.0 / 0.0
     } else {
         LF0
@@ -185,15 +184,15 @@ fn lf0_of(a: u64, b: u64) -> f64 {
 }
 
 // The spectrum of such a situation, an entry longer than it should be.
-fn spectrum_of(a: u64, b: u64) -> [f64; 5]
+fn spectrum_of(these: &[Refusal]) -> [f64; 5]
     ensures { 5 ≡ length result }
 {
-    let gain = if applies(ARGUMENT_OUTSIDE, a, b) {
+    let gain = if these.contains(&Refusal::ArgumentOutside) {
         0.0
     } else {
         GAIN
     };
-    let pair = if applies(ENTRY_BEYOND, a, b) {
+    let pair = if these.contains(&Refusal::EntryBeyond) {
         BEYOND
     } else {
         FIRST_PAIR
@@ -201,76 +200,60 @@ fn spectrum_of(a: u64, b: u64) -> [f64; 5]
     [gain, pair, 1.5, 2.0, 2.5]
 }
 
-// Gives a frame where a and b apply.
-fn give(rt: &impl Print, a: u64, b: u64) -> io::Result<()> {
-    let spectrum = spectrum_of(a, b);
-    let entries = size(4, applies(SPECTRUM_LENGTH, a, b));
+// Gives a frame where these apply.
+fn give(rt: &impl Print, these: &[Refusal]) -> io::Result<()> {
+    let spectrum = spectrum_of(these);
+    let entries = size(4, these.contains(&Refusal::SpectrumLength));
     let lpf = [0.5, 0.25, 0.125];
-    let taps = size(2, applies(TAP_COUNT, a, b));
-    let answered = giving::give(
-        voice_of(a, b),
-        lf0_of(a, b),
-        &spectrum[0..entries],
-        &lpf[0..taps],
-    );
-    print_pair(rt, b"give", a, b, answered.number)
+    let taps = size(2, these.contains(&Refusal::TapCount));
+    let frame = Frame {
+        lf0: lf0_of(these),
+        spectrum: &spectrum[..entries],
+        lpf: &lpf[..taps],
+    };
+    let answered = giving::give(voice_of(these), frame);
+    print_these(rt, b"give", these, answered.number)
 }
 
-// Gives a whole frame where a and b apply.
-fn whole_frame(rt: &impl Print, a: u64, b: u64) -> io::Result<()> {
-    let spectrum = spectrum_of(a, b);
-    let entries = size(4, applies(SPECTRUM_LENGTH, a, b));
+// Gives a whole frame where these apply.
+fn whole_frame(rt: &impl Print, these: &[Refusal]) -> io::Result<()> {
+    let spectrum = spectrum_of(these);
+    let entries = size(4, these.contains(&Refusal::SpectrumLength));
     let lpf = [0.5, 0.25, 0.125];
-    let taps = size(2, applies(TAP_COUNT, a, b));
+    let taps = size(2, these.contains(&Refusal::TapCount));
+    let frame = Frame {
+        lf0: lf0_of(these),
+        spectrum: &spectrum[..entries],
+        lpf: &lpf[..taps],
+    };
     let mut out = [0.0; 5];
-    let room = size(4, !applies(BUFFER_SHORT, a, b));
-    let drawn = whole::whole_frame(
-        voice_of(a, b),
-        lf0_of(a, b),
-        &spectrum[0..entries],
-        &lpf[0..taps],
-        &mut out[0..room],
-        0,
-    );
-    print_pair(rt, b"whole frame", a, b, drawn.number)
+    let room = size(4, !these.contains(&Refusal::BufferShort));
+    let drawn = whole::whole_frame(voice_of(these), frame, &mut out[..room], 0);
+    print_these(rt, b"whole frame", these, drawn.number)
 }
 
-// Draws where a and b apply.
-fn draw(rt: &impl Print, a: u64, b: u64) -> io::Result<()> {
+// Draws where these apply.
+fn draw(rt: &impl Print, these: &[Refusal]) -> io::Result<()> {
     let voice = voice_where(
-        applies(VOICE_IDLE, a, b),
-        !applies(NOTHING_LEFT, a, b),
+        these.contains(&Refusal::VoiceIdle),
+        !these.contains(&Refusal::NothingLeft),
         false,
     );
     let mut out = [0.0; 5];
     let drawn = drawing::draw(voice, &mut out, 0);
-    print_pair(rt, b"draw", a, b, drawn.number)
+    print_these(rt, b"draw", these, drawn.number)
 }
 
-// Makes the call, whole frame or give, where a and b apply.
-fn call(rt: &impl Print, whole: bool, a: u64, b: u64) -> io::Result<()> {
-    if whole {
-        whole_frame(rt, a, b)
-    } else {
-        give(rt, a, b)
-    }
-}
-
-// Makes the call with the number at i, and with it and each after it.
-fn call_from(rt: &impl Print, whole: bool, order: &[u64], i: usize) -> io::Result<()>
-    requires { i < length order.now }
+// Makes the call where none of the refusals applies, where each does, and where each two do.
+fn call_all<F: Fn(&[Refusal]) -> io::Result<()>>(call: F, order: &[Refusal]) -> io::Result<()>
+    requires { F.IsAlwaysCallable call }
 {
-    for j in i..order.len() {
-        call(rt, whole, order[i], order[j])?;
-    }
-    Ok(())
-}
-
-// Makes the call where none of the numbers applies, where each does, and where each two do.
-fn call_all(rt: &impl Print, whole: bool, order: &[u64]) -> io::Result<()> {
-    call(rt, whole, DONE, DONE)?;
+    call(&[])?;
     for i in 0..order.len() {
-        call_from(rt, whole, order, i)?;
+        call(&[order[i]])?;
+        for j in i + 1..order.len() {
+            call(&[order[i], order[j]])?;
+        }
     }
     Ok(())
 }
@@ -281,44 +264,74 @@ fn give_named(
     name: &[u8],
     stage: u64,
     beta: f64,
-    lf0: f64,
-    spectrum: &[f64],
-    lpf: &[f64],
+    frame: Frame,
 ) -> io::Result<()> {
     let mut c = configuration();
     c.stage = stage;
     c.beta = beta;
     let mut voice = voice_where(false, false, false);
     voice.configuration = c;
-    let answered = giving::give(voice, lf0, spectrum, lpf);
+    let answered = giving::give(voice, frame);
     print_named(rt, b"give", name, answered.number)
 }
 
 // Other ways to 6 and 9, and where 7 begins and does not apply.
 fn give_others(rt: &impl Print) -> io::Result<()> {
-    let fine = [GAIN, FIRST_PAIR, 1.5, 2.0];
     let lpf = [0.5, 0.25];
     let top = 1.0 / 0.0;
     let infinite = [GAIN, top, 1.5, 2.0];
     let largest = [GAIN, LARGEST, 1.5, 2.0];
     let beyond = [GAIN, BEYOND, 1.5, 2.0];
     let equal = [GAIN, 1.5, 1.5, 1.5];
-    give_named(rt, b"infinite entry", 1, 0.0, LF0, &infinite, &lpf)?;
-    give_named(rt, b"infinite tap", 1, 0.0, LF0, &fine, &[0.5, top])?;
-    give_named(rt, b"lf0 not a number", 1, 0.0, top - top, &fine, &lpf)?;
-    give_named(rt, b"largest entry", 1, 0.0, LF0, &largest, &lpf)?;
-    give_named(rt, b"entry beyond at stage 0", 0, 0.0, LF0, &beyond, &lpf)?;
-    give_named(rt, b"equal pairs", 1, 0.5, LF0, &equal, &lpf)
+    let fine = Frame {
+        lf0: LF0,
+        spectrum: &[GAIN, FIRST_PAIR, 1.5, 2.0],
+        lpf: &lpf,
+    };
+    let of = |spectrum| Frame { spectrum, ..fine };
+    give_named(rt, b"infinite entry", 1, 0.0, of(&infinite))?;
+    let tap = [0.5, top];
+    give_named(rt, b"infinite tap", 1, 0.0, Frame { lpf: &tap, ..fine })?;
+    let lf0 = top - top;
+    give_named(rt, b"lf0 not a number", 1, 0.0, Frame { lf0, ..fine })?;
+    give_named(rt, b"largest entry", 1, 0.0, of(&largest))?;
+    give_named(rt, b"entry beyond at stage 0", 0, 0.0, of(&beyond))?;
+    give_named(rt, b"equal pairs", 1, 0.5, of(&equal))
 }
+
+// What can be refused of a frame that is given, in the order of the table.
+const OF_GIVE: [Refusal; 8] = [
+    Refusal::VoiceIdle,
+    Refusal::SamplesLeft,
+    Refusal::SpectrumLength,
+    Refusal::TapCount,
+    Refusal::NotFinite,
+    Refusal::EntryBeyond,
+    Refusal::MeterFull,
+    Refusal::ArgumentOutside,
+];
+
+// And of a whole frame.
+const OF_WHOLE: [Refusal; 9] = [
+    Refusal::VoiceIdle,
+    Refusal::BufferShort,
+    Refusal::SamplesLeft,
+    Refusal::SpectrumLength,
+    Refusal::TapCount,
+    Refusal::NotFinite,
+    Refusal::EntryBeyond,
+    Refusal::MeterFull,
+    Refusal::ArgumentOutside,
+];
 
 fn main(rt: HostRuntime) -> io::Result<()> {
     open_with_numbers(&rt)?;
     open_with_floats(&rt)?;
-    call_all(&rt, false, &[2, 3, 4, 5, 6, 7, 8, 9])?;
+    call_all(|these| give(&rt, these), &OF_GIVE)?;
     give_others(&rt)?;
-    call_all(&rt, true, &[2, 14, 3, 4, 5, 6, 7, 8, 9])?;
-    draw(&rt, DONE, DONE)?;
-    draw(&rt, VOICE_IDLE, VOICE_IDLE)?;
-    draw(&rt, NOTHING_LEFT, NOTHING_LEFT)?;
-    draw(&rt, VOICE_IDLE, NOTHING_LEFT)
+    call_all(|these| whole_frame(&rt, these), &OF_WHOLE)?;
+    draw(&rt, &[])?;
+    draw(&rt, &[Refusal::VoiceIdle])?;
+    draw(&rt, &[Refusal::NothingLeft])?;
+    draw(&rt, &[Refusal::VoiceIdle, Refusal::NothingLeft])
 }

@@ -9,7 +9,7 @@ use Rattle.history.specs.Steps.{one}
 use Rattle.noise.specs.declared.Random.{Random}
 use Rattle.noise.specs.Draw.{try_of, accepted}
 use Rattle.noise.specs.Noise.{found_of, pair_step, pair_of, noise_of}
-use Rattle.noise.specs.declared.pair.Found.TheVariants as found
+use Rattle.std.specs.Prelude.{Some}
 use Rattle.excitation.specs.Excitation.{Excitation}
 use Rattle.voice.specs.declared.Voice.{Voice}
 use Rattle.drawing.specs.Step.{taps_of, excitation_of, step}
@@ -33,7 +33,7 @@ unfolding found_of
 pair_below zero next = tt
 pair_below (suc bound) next =
     let t = try_of next in
-    either (λ f. Made Any Below (pair_step f)) (accepted t) (found.Pair t) (found_of bound t.next) (tt, try_below next) (pair_below bound t.next)
+    either (λ f. Made Any Below (pair_step f)) (accepted t) (Some t) (found_of bound t.next) (tt, try_below next) (pair_below bound t.next)
 
 module _ (bound : ℕ) where
   one_pair : (next : ℕ) → Made Any Below (pair_of bound next)

@@ -5,16 +5,16 @@ use native.Mathlib.Omega.{arith}
 use lib.ListN.{length, length-append}
 use lib.Ieee.{Float}
 use Rattle.noise.specs.declared.Random.{Random}
-use Rattle.noise.specs.declared.pair.Found.{Found}
-use Rattle.noise.specs.declared.pair.Found.TheVariants as found
+use Rattle.std.specs.Prelude.{Option, None, Some}
+use Rattle.noise.specs.declared.draw.Try.{Try}
 use Rattle.noise.specs.Noise.{found_of, pair_step, pair_of, noise_of}
 use Rattle.held.proofs.NoiseKeeps.{Made, noise_such}
 use Rattle.stream.proofs.PartLaws.{After, after_made}
 use Rattle.stream.proofs.MelLaws.{Has}
 
-pair_two : (f : Found) → Made (Has 2) (λ (n : ℕ). Unit {0}) (pair_step f)
-pair_two found.Dry = tt
-pair_two (found.Pair t) = (refl, tt)
+pair_two : (f : Option Try) → Made (Has 2) (λ (n : ℕ). Unit {0}) (pair_step f)
+pair_two None = tt
+pair_two (Some t) = (refl, tt)
 
 one_pair : (bound next : ℕ) → Made (Has 2) (λ (n : ℕ). Unit {0}) (pair_of bound next)
 unfolding pair_of

@@ -15,7 +15,7 @@ use Rattle.noise.specs.Draw.{draw_of, r_of, tries}
 use Rattle.noise.specs.Noise.{fresh_random}
 use Rattle.noise.specs.Examples.{first_draws}
 use Rattle.stability.specs.Stability.{PI, ¼f, least_gap, gaps, low_end, high_end, pass_of, passes_of, stable_of}
-use Rattle.pulse.specs.declared.Pitch.TheVariants.{Voiced}
+use Rattle.std.specs.Prelude.{Some}
 use Rattle.pulse.specs.Train.{fresh_pulse, start_of}
 use Rattle.excitation.specs.Excitation.{state, stretch_of}
 use Rattle.excitation.specs.Examples.{eight}
@@ -138,7 +138,7 @@ unfolding stable_of passes_of pass_of gaps low_end high_end least_gap of_bits of
 item_7 = refl
 
 -- 8: "pitch 4 from rest, nlpf 0: 2,0,0,2,0,0,0,2"
-pub item_8 : (stretch_of tries [] 8 (state (start_of fresh_pulse (Voiced 4f) 8) fresh_random [])).made ≡ 2f ∷ 0f ∷ 0f ∷ 2f ∷ 0f ∷ 0f ∷ 0f ∷ 2f ∷ []
+pub item_8 : (stretch_of tries [] 8 (state (start_of fresh_pulse (Some 4f) 8) fresh_random [])).made ≡ 2f ∷ 0f ∷ 0f ∷ 2f ∷ 0f ∷ 0f ∷ 0f ∷ 2f ∷ []
 unfolding of_bits of_int
 item_8 = eight
 

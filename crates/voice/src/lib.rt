@@ -21,7 +21,8 @@ pub const MOST_METER: u64 = 9223372036854775807;
 const FILLING: usize = 64;
 
 // In the order of the rest records. Of the arrays the first nmcp or nlpf entries are in use, and one of the two filters: `zero` at stage 0,
-// else `nonzero`. What is not in use stays as it is.
+// else `nonzero`. What is not in use stays as it is. C has this struct too, so the counts
+// stand beside fixed arrays.
 #[repr(C)]
 #[derive(Clone, Copy)]
 pub struct Voice {
@@ -40,7 +41,7 @@ pub struct Voice {
     pub nonzero: MelGeneralizedLogSpectrumApproximation,
 }
 
-// What open and give answer: a number of the table, and the voice after the call.
+// What open and give answer: a number of the table, and the voice after the call. C reads the number, so it is no Result.
 #[repr(C)]
 #[derive(Clone, Copy)]
 pub struct Answered {
@@ -48,7 +49,7 @@ pub struct Answered {
     pub voice: Voice,
 }
 
-// Whether restore's rules hold of these values of a voice: else it is idle.
+// Whether restore's rules hold of these values of a voice: else it is idle. Restore asks it of records, where there is no voice yet.
 pub fn usable(
     configuration: Configuration,
     meter: u64,

@@ -7,27 +7,45 @@
 // is cut off, or past a limit, ends the program.
 #![tactic(auto)]
 
-ghost use Rattle.std.specs.Prelude.{◌+◌, ◌-◌, ◌*◌, ◌≤◌, IfOk, length};
+ghost use Rattle.std.specs.Prelude.{◌+◌, ◌*◌, ◌<◌, ◌≤◌, IfOk, IfSome, length};
 
 use configuration::Configuration;
 use drawing::Drawn;
+use refusing::Frame;
 use std::io;
 use voice::Voice;
 
 // What stands in a buffer before a call.
 const BEFORE: f64 = 1.0;
 
-// The kinds of calls. The whole frame, 2, is what none of these is.
-const GIVE: u64 = 0;
+// The kinds of calls.
+enum Kind {
+    Give,
+    Draw,
+    Whole,
+    Meter,
+}
 
-const DRAW: u64 = 1;
+// A number that is the kind of no call.
+struct NoKind;
 
-const METER: u64 = 3;
+impl TryFrom<u64> for Kind {
+    type Error = NoKind;
 
-// Whether calls were read to their end; the place in the text after them; the voice after them.
+    fn try_from(word: u64) -> Result<Self, NoKind> {
+        match word {
+            0 => Ok(Self::Give),
+            1 => Ok(Self::Draw),
+            2 => Ok(Self::Whole),
+            3 => Ok(Self::Meter),
+            _ => Err(NoKind),
+        }
+    }
+}
+
+// The place in the text after calls that were read to their end, and the voice after them.
 #[derive(Clone, Copy)]
 struct Replayed {
-    whole: bool,
     end: usize,
     voice: Voice,
 }
@@ -76,40 +94,18 @@ fn print_voice(rt: &impl Print, voice: Voice) -> io::Result<()> {
 }
 
 // Gives a frame, and writes the number.
-fn give(
-    rt: &impl Print,
-    voice: Voice,
-    lf0: f64,
-    spectrum: &[f64],
-    lpf: &[f64],
-) -> io::Result<Voice> {
-    let answered = giving::give(voice, lf0, spectrum, lpf);
+fn give(rt: &impl Print, voice: Voice, frame: Frame) -> io::Result<Voice> {
+    let answered = giving::give(voice, frame);
     words::print_word(rt, answered.number)?;
     Ok(answered.voice)
 }
 
-// The voice with another meter.
-fn with_meter(handed: Voice, meter: u64) -> Voice {
-    let mut voice = handed;
-    voice.meter = meter;
-    voice
-}
-
-// Draws, or gives a whole frame.
-fn sound(
-    voice: Voice,
-    kind: u64,
-    lf0: f64,
-    spectrum: &[f64],
-    lpf: &[f64],
-    out: &mut [f64],
-    start: usize,
-) -> Drawn {
-    if kind == DRAW {
-        drawing::draw(voice, out, start)
-    } else {
-        whole::whole_frame(voice, lf0, spectrum, lpf, out, start)
-    }
+// Writes what a call that makes samples answers, and its whole buffer.
+fn print_drawn(rt: &impl Print, drawn: Drawn, out: &[f64]) -> io::Result<Voice> {
+    words::print_word(rt, drawn.number)?;
+    words::print_word(rt, drawn.made as u64)?;
+    words::print_floats(rt, out)?;
+    Ok(drawn.voice)
 }
 
 // Makes the call at `at`, with room for its numbers, and writes what it answers.
@@ -117,6 +113,7 @@ fn make_call(
     rt: &impl Print,
     text: &[u8],
     at: usize,
+    kind: Kind,
     voice: Voice,
     spectrum: &mut [f64],
     lpf: &mut [f64],
@@ -125,22 +122,24 @@ fn make_call(
     requires lpf_in_bounds { at + 17 * (6 + length spectrum.old + length lpf.old) ≤ length text.now }
     requires spectrum_len_bound { (length spectrum.old ≤ 80) × (length lpf.old ≤ 80) }
 {
-    let kind = words::word(text, at);
-    if kind == METER {
-        return Ok(with_meter(voice, words::word(text, at + 17 * 2)));
-    }
-    let start = words::word(text, at + 17 * 2) as usize;
-    let lf0 = words::float(text, at + 17 * 3);
+    let third = words::word(text, at + 17 * 2);
+    let start = third as usize;
     words::floats(text, at + 17 * 6, spectrum);
     words::floats(text, at + 17 * (6 + spectrum.len()), lpf);
-    if kind == GIVE {
-        return give(rt, voice, lf0, spectrum, lpf);
+    let frame = Frame {
+        lf0: words::float(text, at + 17 * 3),
+        spectrum,
+        lpf,
+    };
+    match kind {
+        Kind::Give => give(rt, voice, frame),
+        Kind::Draw => print_drawn(rt, drawing::draw(voice, out, start), out),
+        Kind::Whole => print_drawn(rt, whole::whole_frame(voice, frame, out, start), out),
+        Kind::Meter => Ok(Voice {
+            meter: third,
+            ..voice
+        }),
     }
-    let drawn = sound(voice, kind, lf0, spectrum, lpf, out, start);
-    words::print_word(rt, drawn.number)?;
-    words::print_word(rt, drawn.made as u64)?;
-    words::print_floats(rt, out)?;
-    Ok(drawn.voice)
 }
 
 // Makes the call at `at`, of which so many words are known to be there, in arrays of its own.
@@ -148,6 +147,7 @@ fn call_in_arrays(
     rt: &impl Print,
     text: &[u8],
     at: usize,
+    kind: Kind,
     voice: Voice,
     room: usize,
     entries: usize,
@@ -162,6 +162,7 @@ fn call_in_arrays(
         rt,
         text,
         at,
+        kind,
         voice,
         &mut spectrum[0..entries],
         &mut lpf[0..taps],
@@ -170,43 +171,35 @@ fn call_in_arrays(
 }
 
 // Replays the call at `at` where it is there and within the limits.
-fn replay_call(rt: &impl Print, text: &[u8], at: usize, voice: Voice) -> io::Result<Replayed>
+fn replay_call(
+    rt: &impl Print,
+    text: &[u8],
+    at: usize,
+    voice: Voice,
+) -> io::Result<Option<Replayed>>
     requires { at ≤ length text.now }
-    ensures { IfOk result (λ r. (at ≤ r.end) × (r.end ≤ length text.now)) }
+    ensures { IfOk result (λ o. IfSome o (λ r. (at ≤ r.end) × (r.end ≤ length text.now))) }
 {
-    let cut = Replayed {
-        whole: false,
-        end: at,
-        voice,
-    };
     if 17 * 6 > text.len() - at {
-        return Ok(cut);
+        return Ok(None);
     }
-    let kind = words::word(text, at);
+    let Ok(kind) = Kind::try_from(words::word(text, at)) else {
+        return Ok(None);
+    };
     let room = words::word(text, at + 17) as usize;
     let entries = words::word(text, at + 17 * 4) as usize;
     let taps = words::word(text, at + 17 * 5) as usize;
-    if kind > METER {
-        return Ok(cut);
-    }
-    if room > 512 {
-        return Ok(cut);
-    }
-    if entries > 80 {
-        return Ok(cut);
-    }
-    if taps > 80 {
-        return Ok(cut);
+    if room > 512 || entries > 80 || taps > 80 {
+        return Ok(None);
     }
     let size = 17 * (6 + entries + taps);
     if size > text.len() - at {
-        return Ok(cut);
+        return Ok(None);
     }
-    Ok(Replayed {
-        whole: true,
+    Ok(Some(Replayed {
         end: at + size,
-        voice: call_in_arrays(rt, text, at, voice, room, entries, taps)?,
-    })
+        voice: call_in_arrays(rt, text, at, kind, voice, room, entries, taps)?,
+    }))
 }
 
 // Replays so many calls from `at` on, one after the other.
@@ -216,55 +209,46 @@ fn replay_calls(
     at: usize,
     count: u64,
     opened: Voice,
-) -> io::Result<Replayed>
+) -> io::Result<Option<Replayed>>
     requires { at ≤ length text.now }
-    ensures { IfOk result (λ r. (at ≤ r.end) × (r.end ≤ length text.now)) }
+    ensures { IfOk result (λ o. IfSome o (λ r. (at ≤ r.end) × (r.end ≤ length text.now))) }
 {
     let mut end = at;
     let mut voice = opened;
-    let mut made: u64 = 0;
-    while made < count {
-        let replayed = replay_call(rt, text, end, voice)?;
-        if !replayed.whole {
-            return Ok(replayed);
-        }
+    for made in 0..count {
+        let Some(replayed) = replay_call(rt, text, end, voice)? else {
+            return Ok(None);
+        };
         end = replayed.end;
         voice = replayed.voice;
-        made += 1;
     }
-    Ok(Replayed {
-        whole: true,
-        end,
-        voice,
-    })
+    Ok(Some(Replayed { end, voice }))
 }
 
-// Replays the case at `at`, and answers how many bytes it has: 0 where it is cut off or past a limit.
-fn replay_case(rt: &impl Print, text: &[u8], at: usize) -> io::Result<usize>
+// Replays the case at `at`, and answers where it ends: none where it is cut off or past a limit.
+fn replay_case(rt: &impl Print, text: &[u8], at: usize) -> io::Result<Option<usize>>
     requires { at + 17 * 13 ≤ length text.now }
-    ensures { IfOk result (λ n. n ≤ length text.now - at) }
+    ensures { IfOk result (λ o. IfSome o (λ end. (at < end) × (end ≤ length text.now))) }
 {
     let configuration = configuration_at(text, at);
     let count = words::word(text, at + 17 * 12);
     let opened = voice::open(configuration);
     words::print_word(rt, opened.number)?;
-    let replayed = replay_calls(rt, text, at + 17 * 13, count, opened.voice)?;
-    if !replayed.whole {
-        return Ok(0);
-    }
+    let Some(replayed) = replay_calls(rt, text, at + 17 * 13, count, opened.voice)? else {
+        return Ok(None);
+    };
     print_voice(rt, replayed.voice)?;
-    Ok(replayed.end - at)
+    Ok(Some(replayed.end))
 }
 
 // Replays the cases, one after the other.
 fn replay(rt: &impl Print, text: &[u8]) -> io::Result<()> {
     let mut at = 0;
     while 17 * 13 <= text.len() - at {
-        let size = replay_case(rt, text, at)?;
-        if size == 0 {
+        let Some(end) = replay_case(rt, text, at)? else {
             return Ok(());
-        }
-        at += size;
+        };
+        at = end;
     }
     Ok(())
 }
