@@ -2,7 +2,7 @@
 use mathlib.Core.Path.{◌≡◌, refl, ◌∙◌}
 use mathlib.Core.Bool.{Bool, true, false, cond}
 use mathlib.Core.List.{List, ◌++◌}
-use Prim.Native.Nat.{ℕ, ◌+◌, ◌*◌, ◌≤◌, ◌<◌}
+use Prim.Native.Nat.{ℕ, ◌+◌, ◌*◌, ◌≤◌}
 use native.Mathlib.Nat.{mul-le-mul}
 use native.Mathlib.Omega.{arith}
 use lib.Dec.{eqb}
@@ -12,7 +12,6 @@ use lib.Ieee.{Float}
 use mir.Val.{Val}
 use denote.Laws.{Is}
 use denote.Struct.Declared.{row}
-use borrow.Author.Tests.{eq-eqb, ne_eqb}
 use Rattle.number.specs.Bits.{bits_of}
 use Rattle.configuration.specs.declared.Configuration.{Configuration}
 use Rattle.configuration.specs.Limits.{limits_kept}
@@ -24,13 +23,6 @@ use Rattle.slots.specs.Slots.{bits, head_values, excitation_values, spectrum_val
 -- ---- by the configuration
 
 module _ (c : Configuration) where
-  -- the filter of stage 0, and that of the others
-  pub filter_zero : c.stage ≡ 0 → filter_count c ≡ 18 + 6 * c.nmcp
-  filter_zero e = rw (eq-eqb c.stage 0 e) refl
-
-  pub filter_rows : 0 < c.stage → filter_count c ≡ c.stage * c.nmcp
-  filter_rows h = rw (ne_eqb c.stage 0 (λ (e : c.stage ≡ 0). absurd (omega arith))) refl
-
   -- all, part by part
   pub count_parts : count_of c ≡ 19 + c.nlpf + c.nlpf + 66 + c.nmcp + c.nmcp + c.nmcp + filter_count c
   unfolding count_of

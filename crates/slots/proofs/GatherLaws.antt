@@ -2,13 +2,13 @@
 use mathlib.Core.Path.{◌≡◌, refl, sym, ◌∙◌, ap}
 use mathlib.Core.Bool.{Bool, true, false}
 use mathlib.Core.List.{List, [], ◌∷◌, ◌++◌}
-use Prim.Native.Nat.{ℕ, ◌+◌, ◌*◌, ◌<◌}
+use Prim.Native.Nat.{ℕ, ◌+◌, ◌*◌}
 use native.Mathlib.Omega.{arith}
 use lib.ListN.{length, take, length-map}
 use lib.Seq.{sets}
 use lib.Ieee.{Float}
 use mir.Val.{bool_byte}
-use borrow.Author.Tests.{eq-eqb, ne_eqb}
+use borrow.Author.Tests.{eq-eqb}
 use Rattle.number.specs.Lists.{row}
 use Rattle.number.proofs.Lists.{sets_append}
 use Rattle.configuration.specs.Limits.{limits_kept}
@@ -33,14 +33,6 @@ front_stored w₀ w₁ a n array e = e ∙ ap (λ (xs : List Float). sets w₀ a
 pub flag_byte : (b : Bool) → bool_byte b ≡ flag b
 flag_byte true = refl
 flag_byte false = refl
-
--- the rows of the other stages
-pub rows_stored : (v : Voice) (w₀ w₁ : List ℕ) (at : ℕ) → 0 < v.configuration.stage
-    → w₁ ≡ sets w₀ at (bits (row 0 (v.configuration.stage * v.configuration.nmcp) v.nonzero.d))
-    → w₁ ≡ sets w₀ at (filter_values v)
-rows_stored v w₀ w₁ at stage rows =
-    rw (ne_eqb v.configuration.stage 0 (λ (e : v.configuration.stage ≡ 0). absurd (omega arith)))
-    (front_stored w₀ w₁ at (v.configuration.stage * v.configuration.nmcp) v.nonzero.d rows)
 
 module _ (v : Voice) (long : Long v) (w₀ w₁ w₂ w₃ : List ℕ) where
   abbrev nlpf : ℕ
