@@ -10,6 +10,15 @@ ghost use Rattle.riff.specs.Reading.{extended_of, is_pcm, block_of, format_of, s
 use crate::refusal::Refusal;
 use crate::writing::{Width, bits_in, bytes_in, width_of};
 
+// The tags, in letters: RIFF, WAVE, fmt and a blank, data.
+const RIFF: usize = 0x4646_4952;
+
+const WAVE: usize = 0x4556_4157;
+
+const FORMAT: usize = 0x2074_6d66;
+
+const SOUND: usize = 0x6174_6164;
+
 // What the samples are: their width, and how many there are a second.
 #[derive(Clone, Copy)]
 pub struct Format {
@@ -82,13 +91,7 @@ fn is_pcm(s: &[u8], at: usize, size: usize) -> bool
     ensures { result ≡ is_pcm s.now at size }
 {
     let tag = two(s, at);
-    if tag == 1 {
-        return true;
-    }
-    if size == 40 {
-        return (tag == 0xfffe) & extended(s, at);
-    }
-    false
+    tag == 1 || (size == 40 && (tag == 0xfffe) & extended(s, at))
 }
 
 // The width of the samples by a format chunk whose content starts at `at`, where it is one that is read here.
@@ -160,19 +163,15 @@ fn chunk(s: &[u8], end: usize, c: Cursor) -> Result<Cursor, Refusal>
     let tag = four(s, at);
     let size = four(s, at + 4);
     let room = end - at - 8;
-    if tag == 0x2074_6d66 {
-        return formatted(s, c, size, room);
+    match tag {
+        FORMAT => formatted(s, c, size, room),
+        SOUND => sampled(c, size, room),
+        _ if room < size => Err(Refusal::ChunkPastEnd),
+        _ => Ok(Cursor {
+            at: at + 8 + (size + size % 2),
+            ..c
+        }),
     }
-    if tag == 0x6174_6164 {
-        return sampled(c, size, room);
-    }
-    if room < size {
-        return Err(Refusal::ChunkPastEnd);
-    }
-    Ok(Cursor {
-        at: at + 8 + (size + size % 2),
-        ..c
-    })
 }
 
 // What the walk found at the end of the file: a format, and then samples.
@@ -214,7 +213,7 @@ fn file_end(s: &[u8]) -> Result<usize, Refusal>
     let riff = four(s, 0);
     let size = four(s, 4);
     let wave = four(s, 8);
-    if (riff != 0x4646_4952) | (wave != 0x4556_4157) | (size < 4) {
+    if (riff != RIFF) | (wave != WAVE) | (size < 4) {
         return Err(Refusal::NotSoundFile);
     }
     if s.len() - 8 < size {

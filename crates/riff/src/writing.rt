@@ -131,15 +131,11 @@ fn put_samples(out: &mut [u8], at: usize, width: Width, samples: &[f64]) -> usiz
     ensures held { result ≡ count (held_in width) samples.now }
     ensures bytes { out.new ≡ sets out.old at (sound_of width samples.now) }
 {
+    let end = at + bytes_in(width) * samples.len();
+    let part = &mut out[at..end];
     match width {
-        Width::Sixteen => {
-            let end = at + 2 * samples.len();
-            pcm::put::<Bits16>(&mut out[at..end], samples)
-        }
-        Width::TwentyFour => {
-            let end = at + 3 * samples.len();
-            pcm::put::<Bits24>(&mut out[at..end], samples)
-        }
+        Width::Sixteen => pcm::put::<Bits16>(part, samples),
+        Width::TwentyFour => pcm::put::<Bits24>(part, samples),
     }
 }
 

@@ -1,5 +1,6 @@
 -- `chunk`: by its tests. Assumes nothing.
 use mathlib.Core.Path.{refl}
+use native.Mathlib.Omega.{arith}
 use borrow.Author.Tests.{lt-ltb, le-ltb, eq-eqb, ne_eqb}
 use Rattle.riff.specs.Reading.{chunk_of, skipped_of}
 use Rattle.riff.proofs.reading.chunk.Goals as goal
@@ -8,18 +9,20 @@ pub returns-then-end-at-lt8 : goal.returns-then-end-at-lt8
 unfolding chunk_of
 returns-then-end-at-lt8 c = rw (lt-ltb _ _ c.if-end-at-lt8.true) refl
 
-pub returns-then-tag-eq544501094 : goal.returns-then-tag-eq544501094
+pub returns-in-544501094 : goal.returns-in-544501094
 unfolding chunk_of
-returns-then-tag-eq544501094 c = rw (le-ltb _ _ c.if-end-at-lt8.false, ← c.four-tag.ensures.0, eq-eqb _ 0x2074_6d66 c.if-tag-eq544501094.true, ← c.four-size.ensures.0) c.formatted.ensures
+returns-in-544501094 c = rw (le-ltb _ _ c.if-end-at-lt8.false, ← c.four-tag.ensures.0, eq-eqb _ 0x2074_6d66 c.in-544501094.is, ← c.four-size.ensures.0) c.formatted.ensures
 
-pub returns-then-tag-eq1635017060 : goal.returns-then-tag-eq1635017060
+pub returns-in-1635017060 : goal.returns-in-1635017060
 unfolding chunk_of
-returns-then-tag-eq1635017060 c = rw (le-ltb _ _ c.if-end-at-lt8.false, ← c.four-tag.ensures.0, ne_eqb _ 0x2074_6d66 c.if-tag-eq544501094.false, eq-eqb _ 0x6174_6164 c.if-tag-eq1635017060.true, ← c.four-size.ensures.0) c.sampled.ensures
+returns-in-1635017060 c = rw (le-ltb _ _ c.if-end-at-lt8.false, ← c.four-tag.ensures.0, ne_eqb c.four-tag.result 0x2074_6d66 (λ e. omega (arith, c.in-1635017060.is)), eq-eqb _ 0x6174_6164 c.in-1635017060.is, ← c.four-size.ensures.0) c.sampled.ensures
 
-pub returns-then-room-size : goal.returns-then-room-size
+pub returns-in_default : goal.returns-in_default
 unfolding chunk_of skipped_of
-returns-then-room-size c = rw (le-ltb _ _ c.if-end-at-lt8.false, ← c.four-tag.ensures.0, ne_eqb _ 0x2074_6d66 c.if-tag-eq544501094.false, ne_eqb _ 0x6174_6164 c.if-tag-eq1635017060.false, ← c.four-size.ensures.0, lt-ltb _ _ c.if-room-size.true) refl
+returns-in_default c =
+    rw (le-ltb _ _ c.if-end-at-lt8.false, ← c.four-tag.ensures.0, ne_eqb c.four-tag.result 0x2074_6d66 (λ e. omega arith), ne_eqb c.four-tag.result 0x6174_6164 (λ e. omega arith), ← c.four-size.ensures.0, lt-ltb _ _ c.if-room-size.true) refl
 
-pub returns : goal.returns
+pub returns-in_default-2 : goal.returns-in_default-2
 unfolding chunk_of skipped_of
-returns c = rw (le-ltb _ _ c.if-end-at-lt8.false, ← c.four-tag.ensures.0, ne_eqb _ 0x2074_6d66 c.if-tag-eq544501094.false, ne_eqb _ 0x6174_6164 c.if-tag-eq1635017060.false, ← c.four-size.ensures.0, le-ltb _ _ c.if-room-size.false) refl
+returns-in_default-2 c =
+    rw (le-ltb _ _ c.if-end-at-lt8.false, ← c.four-tag.ensures.0, ne_eqb c.four-tag.result 0x2074_6d66 (λ e. omega arith), ne_eqb c.four-tag.result 0x6174_6164 (λ e. omega arith), ← c.four-size.ensures.0, le-ltb _ _ c.if-room-size.false) refl
