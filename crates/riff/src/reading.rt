@@ -60,7 +60,7 @@ pub struct Heard {
     pub count: usize,
 }
 
-// The number of two bytes, and of four.
+// The number of two bytes, and of four: two functions, since the from_le_bytes of u16 and u32 belong to no trait.
 fn two(s: &[u8], at: usize) -> usize
     requires { at + 2 ≤ length s.now }
     ensures { (result ≡ number_of (take 2 (drop at s.now))) × (result < 2 ^ 16) }

@@ -36,6 +36,7 @@ pub fn width_of(bits: u64) -> Option<Width>
     }
 }
 
+// Nothing written, by any number.
 pub fn refused_by(number: u64) -> Written
     ensures { result ≡ refused number }
 {

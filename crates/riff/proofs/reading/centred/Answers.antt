@@ -2,8 +2,5 @@
 use Rattle.riff.proofs.ReadingLaws.{centred_is}
 use Rattle.riff.proofs.reading.centred.Goals as goal
 
-pub overflow_sub-result : goal.overflow_sub-result
-overflow_sub-result c = (centred_is c.args.half c.args.w c.requires.0 c.requires.1 c.requires.2).0
-
 pub returns : goal.returns
 returns c = (centred_is c.args.half c.args.w c.requires.0 c.requires.1 c.requires.2).1

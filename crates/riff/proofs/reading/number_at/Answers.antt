@@ -12,12 +12,6 @@ pub returns-then-this-eq2 : goal.returns-then-this-eq2
 returns-then-this-eq2 g c =
     rw c.if-this-eq2.true (number_is 2 c.args.s.now c.args.at c.two-low.result ((c.two-low.result + 0x8000) % 0x1_0000) _ (lit≤ tt) (omega (arith, c.two-low.ensures.1)) c.two-low.ensures.0 (omega (arith, c.two-low.ensures.1)) c.centred.ensures)
 
-pub overflow_cast-top : goal.overflow_cast-top
-overflow_cast-top g c = omega (arith, c.type_inv.s (c.args.at + 2))
-
-pub overflow_add-top-2 : goal.overflow_add-top-2
-overflow_add-top-2 g c = record { fits = omega (arith, c.type_inv.s (c.args.at + 2)) }
-
 pub returns : goal.returns
 returns g c =
     let top = get_or c.args.s.now (c.args.at + 2) 0 in

@@ -5,7 +5,7 @@ use native.Mathlib.Omega.{arith}
 use lib.ListN.{length}
 use Rattle.riff.specs.declared.refusal.Refusal.TheVariants.{RoomShort}
 use Rattle.riff.specs.Writing.{padded}
-use Rattle.riff.proofs.WritingLaws.{size_says, product_fits, by_refusal, short, enough, writes_nothing, writes_all, length_file, file_of_lem}
+use Rattle.riff.proofs.WritingLaws.{size_says, by_refusal, short, enough, writes_nothing, writes_all, length_file, file_of_lem}
 use Rattle.riff.proofs.writing.file.Goals as goal
 use Rattle.riff.proofs.writing.file.Goals.{After-bytes_in}
 
@@ -15,15 +15,6 @@ small c = rw c.bytes_in.ensures.0 (size_says c.args.width c.args.rate (length c.
 
 pub returns-in-Err : goal.returns-in-Err
 returns-in-Err c = writes_nothing _ _ _ c.in-Err.refusal (by_refusal _ _ _ _ c.in-Err.refusal c.in-Err.ensures) _ c.from.ensures
-
-pub overflow_mul-sound : goal.overflow_mul-sound
-overflow_mul-sound c = record { fits = product_fits c.args.width c.args.rate (length c.args.samples.now) c.in_default.ensures _ c.bytes_in.ensures.0 }
-
-pub overflow_add-bytes : goal.overflow_add-bytes
-overflow_add-bytes c = record { fits = omega (arith, (small c).0) }
-
-pub overflow_add-bytes-2 : goal.overflow_add-bytes-2
-overflow_add-bytes-2 c = record { fits = omega (arith, (small c).0) }
 
 pub returns-then-out-bytes : goal.returns-then-out-bytes
 returns-then-out-bytes c =
@@ -39,9 +30,6 @@ pub put_header-requires : goal.put_header-requires
 put_header-requires c =
     let s = small (goal.at.put_header-requires c).After-bytes_in in
     (omega arith, rw c.bytes_in.ensures.0 refl, s.0, s.1)
-
-pub put_samples-held-requires : goal.put_samples-held-requires
-put_samples-held-requires c = rw (← c.bytes_in.ensures.0) (omega arith)
 
 pub returns : goal.returns
 returns c =

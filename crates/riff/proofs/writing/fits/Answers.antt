@@ -1,6 +1,6 @@
 -- `fits`: by its tests. Assumes nothing.
 use native.Mathlib.Omega.{arith}
-use Rattle.riff.proofs.WritingLaws.{rate_refused, too_long, all_fits, small_product, large_product, bytes_least}
+use Rattle.riff.proofs.WritingLaws.{rate_refused, too_long, all_fits, large_product, bytes_least}
 use Rattle.riff.proofs.writing.fits.Goals as goal
 
 pub returns-then-rate : goal.returns-then-rate
@@ -9,15 +9,6 @@ returns-then-rate c = rate_refused c.args.width c.args.rate c.args.n c.if-rate.t
 pub returns-then-n-ge4294967296 : goal.returns-then-n-ge4294967296
 returns-then-n-ge4294967296 c =
     too_long c.args.width c.args.rate c.args.n c.if-rate.false (large_product _ c.args.n (bytes_least c.args.width) (omega (arith, c.if-n-ge4294967296.true)))
-
-pub overflow_mul-sound : goal.overflow_mul-sound
-overflow_mul-sound c = record { fits = omega (arith, small_product c.bytes_in.result c.args.n c.bytes_in.ensures.2 (omega arith)) }
-
-pub overflow_add-sound : goal.overflow_add-sound
-overflow_add-sound c = record { fits = omega (arith, small_product c.bytes_in.result c.args.n c.bytes_in.ensures.2 (omega arith)) }
-
-pub overflow_add-sound-2 : goal.overflow_add-sound-2
-overflow_add-sound-2 c = record { fits = omega (arith, small_product c.bytes_in.result c.args.n c.bytes_in.ensures.2 (omega arith)) }
 
 pub returns-then-sound-ge4294967296 : goal.returns-then-sound-ge4294967296
 returns-then-sound-ge4294967296 c =

@@ -5,11 +5,8 @@ use native.Mathlib.Omega.{arith}
 use lib.ListN.{length}
 use Rattle.std.specs.Prelude.{Ok}
 use Rattle.riff.specs.declared.refusal.Refusal.TheVariants.{RoomShort}
-use Rattle.riff.proofs.WritingLaws.{small_product, parity, short, enough, writes_nothing, writes_all, length_zeros, pad_stored}
+use Rattle.riff.proofs.WritingLaws.{parity, short, enough, writes_nothing, writes_all, length_zeros, pad_stored}
 use Rattle.riff.proofs.writing.pad.Goals as goal
-
-pub overflow_mul-sound : goal.overflow_mul-sound
-overflow_mul-sound c = record { fits = omega (arith, small_product c.bytes_in.result (c.args.n % 2) c.bytes_in.ensures.2 (omega arith)) }
 
 pub returns-then-out-sound : goal.returns-then-out-sound
 returns-then-out-sound c =

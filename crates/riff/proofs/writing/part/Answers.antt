@@ -1,7 +1,6 @@
 -- `part`: by its test. Assumes nothing.
 use mathlib.Core.Path.{refl}
 use Prim.Native.Nat.{◌*◌, ◌≤◌}
-use native.Mathlib.Nat.{mul-le-mul_right}
 use native.Mathlib.Omega.{arith}
 use lib.ListN.{length}
 use Rattle.pcm.proofs.SamplesLaws.{length_bytes_of}
@@ -10,15 +9,9 @@ use Rattle.riff.specs.declared.refusal.Refusal.TheVariants.{RoomShort}
 use Rattle.riff.proofs.WritingLaws.{short, enough, writes_nothing, writes_all}
 use Rattle.riff.proofs.writing.part.Goals as goal
 
-pub overflow_mul-bytes : goal.overflow_mul-bytes
-overflow_mul-bytes c = record { fits = omega (arith, mul-le-mul_right (length c.args.samples.now) c.bytes_in.ensures.2) }
-
 pub returns-then-out-bytes : goal.returns-then-out-bytes
 returns-then-out-bytes c =
     writes_nothing _ _ _ RoomShort (rw (← c.bytes_in.ensures.0) (short (Ok tt) (length c.args.out.now) (c.bytes_in.result * length c.args.samples.now) _ refl (omega arith))) _ c.from.ensures
-
-pub put_samples-held-requires : goal.put_samples-held-requires
-put_samples-held-requires c = rw (← c.bytes_in.ensures.0) (omega arith)
 
 pub returns : goal.returns
 returns c =
