@@ -53,9 +53,7 @@ fn samples_in(
         (state c.old (filter d11.old d12.old (flat (length c.old) first.old second.old d21.old) d22.old)) samples.old }
 {
     for x in samples.iter_mut() {
-        let y = sample(
-            *x, c, course, d11, d12, first, second, d21, d22,
-        );
+        let y = sample(*x, c, course, d11, d12, first, second, d21, d22);
         *x = y;
     }
 }
@@ -80,8 +78,6 @@ pub(crate) fn between(
 {
     let n = c.len();
     layout::lay(first, second, d21, n);
-    samples_in(
-        samples, c, course, d11, d12, first, second, d21, d22,
-    );
+    samples_in(samples, c, course, d11, d12, first, second, d21, d22);
     layout::lay_back(d21, first, second, n);
 }

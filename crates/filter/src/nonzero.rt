@@ -8,13 +8,7 @@ use crate::Course;
 use mglsa::MelGeneralizedLogSpectrumApproximation;
 
 // One sample.
-fn sample(
-    x: f64,
-    c: &mut [f64],
-    course: Course<'_>,
-    stages: usize,
-    d: &mut [f64],
-) -> f64
+fn sample(x: f64, c: &mut [f64], course: Course<'_>, stages: usize, d: &mut [f64]) -> f64
     requires { (2 ≤ length c.old) × (length course.increments.now ≡ length c.old) × (stages * length c.old ≤ length d.old) }
     ensures { record { sample = result; state = state c.new d.new }
         ≡ sample_of course.entry.alpha stages course.entry.volume course.entry.increments.now (state c.old d.old) x }

@@ -59,9 +59,7 @@ fn part(
     let mut d12 = f.d12;
     let mut d21 = f.d21;
     let mut d22 = f.d22;
-    stretch_in(
-        samples, c, course, &mut d11, &mut d12, &mut d21, &mut d22,
-    );
+    stretch_in(samples, c, course, &mut d11, &mut d12, &mut d21, &mut d22);
     MelLogSpectrumApproximation { d11, d12, d21, d22 }
 }
 

@@ -10,18 +10,20 @@ pub loop-i-init : goal.loop-i-init
 loop-i-init c =
     let d = c.args.d.now in
     let n = length c.args.c.now in
-    let two : length d ≡ n + n = c.requires.1 in
-    (row_started _ c.args.c.now (take n d) _ c.requires.0 (first_length d n c.requires.0 two) (c.start.ensures ∙ first_started d n c.requires.0 two _),
-    row_started _ c.args.c.now (drop n d) _ c.requires.0 (second_length d n c.requires.0 two) (c.start-2.ensures ∙ second_started d n c.requires.0 two _))
+    let two : length d ≡ n + n = c.requires.1 in (
+      row_started _ c.args.c.now (take n d) _ c.requires.0 (first_length d n c.requires.0 two) (c.start.ensures ∙ first_started d n c.requires.0 two _),
+      row_started _ c.args.c.now (drop n d) _ c.requires.0 (second_length d n c.requires.0 two) (c.start-2.ensures ∙ second_started d n c.requires.0 two _),
+    )
 
 pub warp_both_at-s-requires : goal.warp_both_at-s-requires
 warp_both_at-s-requires c =
     (omega arith, omega arith, omega arith, omega arith, c.loop-i.invariant.0.before, c.loop-i.invariant.1.before)
 
 pub loop-i-preserved : goal.loop-i-preserved
-loop-i-preserved c =
-    (row_on _ _ _ c.loop-i.i _ _ _ _ c.loop-i-test.true c.loop-i.invariant.0 c.warp_both_at-s.ensures.first,
-    row_on _ _ _ c.loop-i.i _ _ _ _ c.loop-i-test.true c.loop-i.invariant.1 c.warp_both_at-s.ensures.second)
+loop-i-preserved c = (
+  row_on _ _ _ c.loop-i.i _ _ _ _ c.loop-i-test.true c.loop-i.invariant.0 c.warp_both_at-s.ensures.first,
+  row_on _ _ _ c.loop-i.i _ _ _ _ c.loop-i-test.true c.loop-i.invariant.1 c.warp_both_at-s.ensures.second,
+)
 
 pub returns : goal.returns
 returns c =

@@ -8,6 +8,6 @@ use Rattle.mlsa.proofs.Sums.weigh.Goals.{then-i-eq1, else-i-eq1}
 pub returns : goal.returns
 unfolding weighed
 returns c = elim c.if-i-eq1.branch [
-  then-i-eq1 w ↦ rw (w.turned-is, eq-eqb _ _ w.if-i-eq1.true) refl
+  | then-i-eq1 w ↦ rw (w.turned-is, eq-eqb _ _ w.if-i-eq1.true) refl
   | else-i-eq1 w ↦ rw (w.turned-is, ne_eqb _ _ w.if-i-eq1.false) refl
 ]
