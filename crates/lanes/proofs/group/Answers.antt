@@ -1,5 +1,4 @@
 -- `group` meets its contract: each lane has its four taps. Assumes nothing.
-use mathlib.Core.Path.{◌≡◌}
 use Prim.Native.Nat.{◌+◌}
 use native.Mathlib.Omega.{arith}
 use lib.ListN.{length}

@@ -1,6 +1,6 @@
 -- `df` meets its contract: the stages that are left make of the taps here what all of them make of them at the start. Assumes nothing.
 use mathlib.Core.Path.{◌≡◌, refl, sym, ap, ◌∙◌}
-use Prim.Native.Nat.{◌+◌, ◌-◌, ◌*◌, ◌/◌}
+use Prim.Native.Nat.{◌+◌, ◌-◌, ◌*◌}
 use native.Mathlib.Omega.{arith}
 use Rattle.mglsa.specs.Mglsa.{stages_from, turned, df_of}
 use Rattle.mglsa.proofs.MglsaLaws.{stage_turn, stages_turn, stage_end, row_within, rows_within}

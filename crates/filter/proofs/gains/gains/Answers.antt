@@ -1,8 +1,8 @@
 -- `gains` meets its contract: the samples that are left, from c0 here on, come to what all of them come to from the start. Assumes nothing.
 use mathlib.Core.Path.{◌≡◌, sym, ap, ◌∙◌}
-use Prim.Native.Nat.{◌+◌, ◌≤◌}
+use Prim.Native.Nat.{◌+◌}
 use native.Mathlib.Omega.{arith}
-use lib.ListN.{length, length-take, length-drop}
+use lib.ListN.{length}
 use lib.Ieee.{Float}
 use Rattle.history.specs.Through.{Passage}
 use Rattle.history.proofs.ThroughLaws.{through_all, through_block, length_block, through_end}

@@ -1,6 +1,6 @@
 -- `gains` meets its contract: the samples that are left, from c0 here on, come to what all of them come to from the start. Assumes nothing.
 use mathlib.Core.Path.{◌≡◌}
-use Prim.Native.Nat.{◌-◌, ◌≤◌}
+use Prim.Native.Nat.{◌-◌}
 use lib.ListN.{length}
 use Rattle.history.specs.Through.{through}
 use Rattle.history.proofs.ThroughLaws.{from_here}
