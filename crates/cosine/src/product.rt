@@ -2,6 +2,7 @@
 ghost use Rattle.std.specs.Prelude.{◌≡◌, ◌*◌, ◌/◌, ◌^◌};
 
 // a * b / 2^64, rounded down, from the halves of each: every sum is below 2^64.
+// By hand, and not `carrying_mul`: the edit low_carry_lost, which must stay refused, is of the carry between the halves.
 pub(crate) fn high_product(a: u64, b: u64) -> u64
     ensures { result ≡ a * b / 2 ^ 64 }
 {

@@ -108,6 +108,7 @@ fn float_of(n: u64) -> f64
 }
 
 // The square of r, which is below 3.15.
+// The bound is a clause and no type's invariant: a type around one number, taken off again in the line that uses it, is no plainer.
 fn square(r: u64) -> u64
     requires { 2 * r ≤ turn }
     ensures { (result ≡ r * r / one) × (400 * result ≤ 3969 * one) }
