@@ -119,6 +119,7 @@ fn root_of(b: u64, s: u64) -> f64
     f64::from_bits(m + 1 + (1022 + 840 / s - t / s) * 0x10_0000_0000_0000)
 }
 
+// The two tests stand here and in inverse_root: a closure for what is made past them, with its requires and its clause, is no plainer.
 // a^-s. s - 1 products and a quotient: r * a^s is within 8 factors of 1 + 2^-53 of 1, and the band is 2^-44.
 pub fn inverse_power(a: f64, s: u64) -> Result<f64, Outside>
     ensures value { result ≡ inverse_power_of a s }
