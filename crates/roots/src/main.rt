@@ -17,6 +17,7 @@ fn write_roots(rt: &impl Print, text: &[u8]) -> io::Result<()> {
     Ok(())
 }
 
+// The buffer is fixed, and no Vec: what is past 65,536 bytes has never been read.
 fn main(rt: HostRuntime) -> io::Result<()> {
     let mut text = [0; 65536];
     let count = words::read(&mut rt.stdin(), &mut text)?;
