@@ -16,6 +16,7 @@ const MOST: f64 = 1.329227995784916e36;
 // 2^-120, the smallest.
 const LEAST: f64 = 7.52316384526264e-37;
 
+// Whether the base and the stage are inside. That s is from 1 to 8 is a clause of what follows and no type's invariant: a type around one number is no plainer.
 fn inside(a: f64, s: u64) -> bool
     ensures { result ≡ power_inside a s }
 {
