@@ -1,7 +1,7 @@
 -- The three passes of a filling, turn by turn. Assumes nothing.
-use mathlib.Core.Path.{◌≡◌, refl, sym, ap, ◌∙◌, subst}
+use mathlib.Core.Path.{◌≡◌, refl, sym, ap, ◌∙◌}
 use mathlib.Core.List.{List, [], ◌∷◌, ◌++◌}
-use Prim.Native.Nat.{ℕ, zero, suc, ◌+◌, ◌*◌, ◌<◌, ◌≤◌}
+use Prim.Native.Nat.{ℕ, zero, suc, ◌+◌, ◌*◌, ◌<◌}
 use native.Mathlib.Numerals.{add-one}
 use native.Mathlib.Omega.{arith}
 use lib.Dec.{T}
@@ -11,7 +11,6 @@ use lib.Seq.{get_or-set_same, get_or-set_other}
 use borrow.Author.Count.{below_more}
 use Rattle.number.specs.F64.{◌⊗◌, ◌‼◌}
 use Rattle.number.specs.Lists.{over}
-use Rattle.number.proofs.Lists.{over_end}
 use Rattle.root.specs.Root.{root_of}
 use Rattle.elementary.specs.Exact.{ln_inside}
 use Rattle.history.specs.Steps.{dry, one, Run, running, stopped, steps}
@@ -93,9 +92,6 @@ module _ (m : ℕ → Float) (a b before : List Float) where
   pub multiplied_more : (queue : List Float) (k : ℕ) (x : Float) → queue ≡ over (pairs_of m k a b) (2 * k) before → x ≡ m k → 2 * k + 1 < length before
       → set (set queue (2 * k) (a ‼ k ⊗ x)) (2 * k + 1) (b ‼ k ⊗ x) ≡ over (pairs_of m (k + 1) a b) (2 * (k + 1)) before
   multiplied_more queue k x e ex h = rw (ex, e, pairs_more m k a b) (over_pair (pairs_of m k a b) before k (a ‼ k ⊗ m k) (b ‼ k ⊗ m k) (pairs_length m k a b) h)
-
-  pub multiplied_all : (queue : List Float) (k n : ℕ) → queue ≡ over (pairs_of m k a b) (2 * k) before → k ≡ n → length before ≤ 2 * n → queue ≡ pairs_of m n a b
-  multiplied_all queue k n e end h = subst (λ (j : ℕ). queue ≡ over (pairs_of m j a b) (2 * j) before) end e ∙ over_end (pairs_of m n a b) before (2 * n) h
 
 -- ---- the three together
 multiplier_is : (s : Float) → multiplier_of s ≡ root_of (weight_of s)
