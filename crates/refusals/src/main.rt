@@ -258,6 +258,15 @@ fn call_all<F: Fn(&[Refusal]) -> io::Result<()>>(call: F, order: &[Refusal]) -> 
     Ok(())
 }
 
+// A frame of these.
+fn framed<'a>(lf0: f64, spectrum: &'a [f64], lpf: &'a [f64]) -> Frame<'a> {
+    Frame {
+        lf0,
+        spectrum,
+        lpf,
+    }
+}
+
 // Gives a frame that has a name to a voice of that stage and beta.
 fn give_named(
     rt: &impl Print,
@@ -283,20 +292,14 @@ fn give_others(rt: &impl Print) -> io::Result<()> {
     let largest = [GAIN, LARGEST, 1.5, 2.0];
     let beyond = [GAIN, BEYOND, 1.5, 2.0];
     let equal = [GAIN, 1.5, 1.5, 1.5];
-    let fine = Frame {
-        lf0: LF0,
-        spectrum: &[GAIN, FIRST_PAIR, 1.5, 2.0],
-        lpf: &lpf,
-    };
-    let of = |spectrum| Frame { spectrum, ..fine };
-    give_named(rt, b"infinite entry", 1, 0.0, of(&infinite))?;
+    let fine = [GAIN, FIRST_PAIR, 1.5, 2.0];
     let tap = [0.5, top];
-    give_named(rt, b"infinite tap", 1, 0.0, Frame { lpf: &tap, ..fine })?;
-    let lf0 = top - top;
-    give_named(rt, b"lf0 not a number", 1, 0.0, Frame { lf0, ..fine })?;
-    give_named(rt, b"largest entry", 1, 0.0, of(&largest))?;
-    give_named(rt, b"entry beyond at stage 0", 0, 0.0, of(&beyond))?;
-    give_named(rt, b"equal pairs", 1, 0.5, of(&equal))
+    give_named(rt, b"infinite entry", 1, 0.0, framed(LF0, &infinite, &lpf))?;
+    give_named(rt, b"infinite tap", 1, 0.0, framed(LF0, &fine, &tap))?;
+    give_named(rt, b"lf0 not a number", 1, 0.0, framed(top - top, &fine, &lpf))?;
+    give_named(rt, b"largest entry", 1, 0.0, framed(LF0, &largest, &lpf))?;
+    give_named(rt, b"entry beyond at stage 0", 0, 0.0, framed(LF0, &beyond, &lpf))?;
+    give_named(rt, b"equal pairs", 1, 0.5, framed(LF0, &equal, &lpf))
 }
 
 // What can be refused of a frame that is given, in the order of the table.
