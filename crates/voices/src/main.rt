@@ -19,6 +19,7 @@ use voice::Voice;
 const BEFORE: f64 = 1.0;
 
 // The kinds of calls.
+#[derive(Clone, Copy)]
 enum Kind {
     Give,
     Draw,
@@ -27,6 +28,7 @@ enum Kind {
 }
 
 // A number that is the kind of no call.
+#[derive(Clone, Copy)]
 struct NoKind;
 
 impl TryFrom<u64> for Kind {
