@@ -25,11 +25,7 @@ pub extern "C" fn kipawnore_open(configuration: Configuration) -> Answered
 pub extern "C" fn kipawnore_give(voice: Voice, lf0: f64, spectrum: &[f64], lpf: &[f64]) -> Answered
     ensures { Gives (frame lf0 spectrum.now lpf.now) voice result }
 {
-    let frame = Frame {
-        lf0,
-        spectrum,
-        lpf,
-    };
+    let frame = Frame { lf0, spectrum, lpf };
     giving::give(voice, frame)
 }
 
@@ -51,11 +47,7 @@ pub extern "C" fn kipawnore_whole_frame(
 ) -> Drawn
     ensures { Renders (frame lf0 spectrum.now lpf.now) voice out.old start result out.new }
 {
-    let frame = Frame {
-        lf0,
-        spectrum,
-        lpf,
-    };
+    let frame = Frame { lf0, spectrum, lpf };
     whole::whole_frame(voice, frame, out, start)
 }
 

@@ -260,21 +260,11 @@ fn call_all<F: Fn(&[Refusal]) -> io::Result<()>>(call: F, order: &[Refusal]) -> 
 
 // A frame of these.
 fn framed<'a>(lf0: f64, spectrum: &'a [f64], lpf: &'a [f64]) -> Frame<'a> {
-    Frame {
-        lf0,
-        spectrum,
-        lpf,
-    }
+    Frame { lf0, spectrum, lpf }
 }
 
 // Gives a frame that has a name to a voice of that stage and beta.
-fn give_named(
-    rt: &impl Print,
-    name: &[u8],
-    stage: u64,
-    beta: f64,
-    frame: Frame,
-) -> io::Result<()> {
+fn give_named(rt: &impl Print, name: &[u8], stage: u64, beta: f64, frame: Frame) -> io::Result<()> {
     let mut c = configuration();
     c.stage = stage;
     c.beta = beta;
@@ -296,9 +286,21 @@ fn give_others(rt: &impl Print) -> io::Result<()> {
     let tap = [0.5, top];
     give_named(rt, b"infinite entry", 1, 0.0, framed(LF0, &infinite, &lpf))?;
     give_named(rt, b"infinite tap", 1, 0.0, framed(LF0, &fine, &tap))?;
-    give_named(rt, b"lf0 not a number", 1, 0.0, framed(top - top, &fine, &lpf))?;
+    give_named(
+        rt,
+        b"lf0 not a number",
+        1,
+        0.0,
+        framed(top - top, &fine, &lpf),
+    )?;
     give_named(rt, b"largest entry", 1, 0.0, framed(LF0, &largest, &lpf))?;
-    give_named(rt, b"entry beyond at stage 0", 0, 0.0, framed(LF0, &beyond, &lpf))?;
+    give_named(
+        rt,
+        b"entry beyond at stage 0",
+        0,
+        0.0,
+        framed(LF0, &beyond, &lpf),
+    )?;
     give_named(rt, b"equal pairs", 1, 0.5, framed(LF0, &equal, &lpf))
 }
 

@@ -44,8 +44,8 @@ returns c =
     let lent : length c.if-configuration-eq0.c ≡ c.args.voice.configuration.nmcp = c.if-configuration-eq0.auto.c ∙ entries here in
     let long : length c.args.voice.targets ≡ 64 = search rules in
     let over-them : passage c.if-configuration-eq0.samples (refiltered c.args.voice c.if-configuration-eq0.c c.if-configuration-eq0.zero c.if-configuration-eq0.nonzero) ≡ filtered c.args.voice c.args.samples.now =
-        elim c.if-configuration-eq0.branch [
-            then-configuration-eq0 w ↦ rw (w.c-is, w.samples-is, w.zero-is, w.nonzero-is) (filtered_zero c.args.voice (length c.args.c.now) (entries here) _ _ _ c.args.c.now c.requires.1 w.stretch-zero.result (eq-eqb _ _ w.if-configuration-eq0.true) w.stretch-zero.ensures)
-          | else-configuration-eq0 w ↦ rw (w.c-is, w.samples-is, w.zero-is, w.nonzero-is) (filtered_nonzero c.args.voice (length c.args.c.now) (entries here) _ _ _ c.args.c.now c.requires.1 w.stretch-nonzero.result (ne_eqb _ _ w.if-configuration-eq0.false) w.stretch-nonzero.ensures)
-        ] in
+    elim c.if-configuration-eq0.branch [
+      | then-configuration-eq0 w ↦ rw (w.c-is, w.samples-is, w.zero-is, w.nonzero-is) (filtered_zero c.args.voice (length c.args.c.now) (entries here) _ _ _ c.args.c.now c.requires.1 w.stretch-zero.result (eq-eqb _ _ w.if-configuration-eq0.true) w.stretch-zero.ensures)
+      | else-configuration-eq0 w ↦ rw (w.c-is, w.samples-is, w.zero-is, w.nonzero-is) (filtered_nonzero c.args.voice (length c.args.c.now) (entries here) _ _ _ c.args.c.now c.requires.1 w.stretch-nonzero.result (ne_eqb _ _ w.if-configuration-eq0.false) w.stretch-nonzero.ensures)
+    ] in
     ended_is c.args.voice _ _ _ _ _ lent (omega (arith, (sizes c.args.voice.configuration c.requires.0).nmcp_most, long)) over-them _ _ c.close-pulse.ensures
