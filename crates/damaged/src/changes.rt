@@ -1,65 +1,54 @@
 // Damage that leaves the length: a bit turned, two neighbouring records exchanged.
 ghost use Rattle.std.specs.Prelude.{◌+◌, ◌≤◌, ◌<◌, length};
 
-use crate::tally;
-use crate::tally::Tally;
+use crate::tally::{Other, Tally};
+use records::RECORD;
 use std::io;
-use voice::Voice;
-
-// The bytes of a record.
-const RECORD: usize = 16;
 
 // Turns each bit of a byte, and turns it back.
-fn turn_bits(before: Tally, records: &mut [u8], at: usize, other: Voice, kept: &[u8]) -> Tally
+fn turn_bits(before: Tally, records: &mut [u8], at: usize, other: Other) -> Tally
     requires { at < length records.old }
 {
     let byte = records[at];
     let mut tally = before;
-    let mut bit: u8 = 1;
-    for _ in 0..8 {
-        records[at] = byte ^ bit;
-        tally = tally::attempt(tally, records, other, kept);
-        bit = bit << 1;
+    for bit in 0..8 {
+        records[at] = byte ^ (1 << bit);
+        tally = tally.attempt(records, other);
     }
     records[at] = byte;
     tally
 }
 
 // Turns each bit of the records.
-fn turn_all(rt: &impl Print, records: &mut [u8], other: Voice, kept: &[u8]) -> io::Result<()> {
+fn turn_all(rt: &impl Print, records: &mut [u8], other: Other) -> io::Result<()> {
     let mut tally = Tally::new();
     for at in 0..records.len() {
-        tally = turn_bits(tally, records, at, other, kept);
+        tally = turn_bits(tally, records, at, other);
     }
-    tally::print(rt, b"a bit turned", tally)
+    tally.print(rt, "a bit turned")
 }
 
 // Exchanges the two records from `at` on.
 fn exchange(records: &mut [u8], at: usize)
     requires { at + 32 ≤ length records.old }
 {
-    for i in 0..RECORD {
-        let byte = records[at + i];
-        records[at + i] = records[at + RECORD + i];
-        records[at + RECORD + i] = byte;
-    }
+    records[at..at + 2 * RECORD].rotate_left(RECORD);
 }
 
 // Exchanges each two neighbours, and exchanges them back.
-fn exchange_all(rt: &impl Print, records: &mut [u8], other: Voice, kept: &[u8]) -> io::Result<()> {
+fn exchange_all(rt: &impl Print, records: &mut [u8], other: Other) -> io::Result<()> {
     let mut tally = Tally::new();
-    let mut at = 0;
-    while 2 * RECORD <= records.len() - at {
+    for number in 1..records.len() / RECORD {
+        let at = RECORD * (number - 1);
         exchange(records, at);
-        tally = tally::attempt(tally, records, other, kept);
+        tally = tally.attempt(records, other);
         exchange(records, at);
-        at += RECORD;
     }
-    tally::print(rt, b"neighbours exchanged", tally)
+    tally.print(rt, "neighbours exchanged")
 }
 
 // Both kinds.
-pub fn all(rt: &impl Print, records: &mut [u8], other: Voice, kept: &[u8]) -> io::Result<()> {
-    turn_all(rt, records, other, kept)?;
-    exchange_all(rt, records, other, kept)
+pub fn all(rt: &impl Print, records: &mut [u8], other: Other) -> io::Result<()> {
+    turn_all(rt, records, other)?;
+    exchange_all(rt, records, other)
 }

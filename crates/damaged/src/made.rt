@@ -1,7 +1,8 @@
 // The voices.
-ghost use Rattle.std.specs.Prelude.{◌≤◌};
+ghost use Rattle.std.specs.Prelude.{◌≡◌, ◌≤◌};
 
 use configuration::Configuration;
+use refusing::Frame;
 use voice::Voice;
 
 // The log F0 of the first frame; the second is unvoiced.
@@ -10,7 +11,9 @@ const LF0: f64 = 5.0;
 const NODATA: f64 = -10000000000.0;
 
 // The usual configuration with these counts.
-fn configuration(nmcp: usize, nlpf: usize, stage: u64, fperiod: usize) -> Configuration {
+pub fn configuration(nmcp: usize, nlpf: usize, stage: u64, fperiod: usize) -> Configuration
+    ensures { (result.nmcp ≡ nmcp) × (result.nlpf ≡ nlpf) }
+{
     Configuration {
         nmcp,
         nlpf,
@@ -30,40 +33,43 @@ fn configuration(nmcp: usize, nlpf: usize, stage: u64, fperiod: usize) -> Config
 // Fills with numbers that go by equal steps.
 fn fill(values: &mut [f64], first: f64, step: f64) {
     let mut next = first;
-    for i in 0..values.len() {
-        values[i] = next;
-        next = next + step;
+    for value in values.iter_mut() {
+        *value = next;
+        next += step;
     }
 }
 
 // Gives the voice two frames of that spectrum and those taps, and draws the first and three samples of the second.
 fn sounded(opened: Voice, spectrum: &[f64], lpf: &[f64]) -> Voice {
+    let frame = Frame {
+        lf0: LF0,
+        spectrum,
+        lpf,
+    };
     let mut out = [0.0; 80];
-    let rendered = whole::whole_frame(opened, LF0, spectrum, lpf, &mut out, 0);
-    let given = giving::give(rendered.voice, NODATA, spectrum, lpf);
+    let rendered = whole::whole_frame(opened, frame, &mut out, 0);
+    let unvoiced = Frame {
+        lf0: NODATA,
+        ..frame
+    };
+    let given = giving::give(rendered.voice, unvoiced);
     let mut part = [0.0; 3];
-    let drawn = drawing::draw(given.voice, &mut part, 0);
-    drawn.voice
+    drawing::draw(given.voice, &mut part, 0).voice
 }
 
-// Fills the spectrum, falling at stage 0 and of rising pairs else, and the taps; and makes the voice with them.
-fn filled(opened: Voice, rising: bool, spectrum: &mut [f64], lpf: &mut [f64]) -> Voice {
-    fill(spectrum, 0.5, if rising { 0.5 } else { -0.02 });
-    fill(lpf, 0.25, -0.01);
-    sounded(opened, spectrum, lpf)
-}
-
-// A voice in the middle of its second frame.
-pub fn voice(nmcp: usize, nlpf: usize, stage: u64, fperiod: usize) -> Voice
-    requires { (nmcp ≤ 64) × (nlpf ≤ 64) }
+// A voice in the middle of its second frame. The spectrum falls at stage 0, and is of rising pairs else.
+pub fn voice(configuration: Configuration) -> Voice
+    requires { (configuration.nmcp ≤ 64) × (configuration.nlpf ≤ 64) }
 {
-    let opened = voice::open(configuration(nmcp, nlpf, stage, fperiod));
+    let opened = voice::open(configuration);
     let mut spectrum = [0.0; 64];
     let mut lpf = [0.0; 64];
-    filled(
+    let step = if configuration.stage == 0 { -0.02 } else { 0.5 };
+    fill(&mut spectrum, 0.5, step);
+    fill(&mut lpf, 0.25, -0.01);
+    sounded(
         opened.voice,
-        stage != 0,
-        &mut spectrum[0..nmcp],
-        &mut lpf[0..nlpf],
+        &spectrum[..configuration.nmcp],
+        &lpf[..configuration.nlpf],
     )
 }

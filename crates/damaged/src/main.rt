@@ -10,70 +10,54 @@ mod lengths;
 mod made;
 mod tally;
 
+use configuration::Configuration;
+use made::configuration;
 use std::io;
+use tally::Other;
 use voice::Voice;
 
-// Writes a number after its name.
-fn print_named(rt: &impl Print, name: &[u8], number: u64) -> io::Result<()> {
-    rt.write_all(name)?;
-    print!(rt; "{number}")
+// Writes how far a voice has come, and how many bytes its records have.
+fn print_voice(rt: &impl Print, name: &str, voice: Voice, bytes: usize) -> io::Result<()> {
+    let Configuration {
+        nmcp,
+        nlpf,
+        stage,
+        ..
+    } = voice.configuration;
+    let Voice { meter, left, .. } = voice;
+    println!(rt;
+        "{name}nmcp {nmcp}, nlpf {nlpf}, stage {stage}, meter {meter}, left {left}: {bytes} bytes"
+    )
 }
 
-// Writes what voice it is, how far it has come, and how many bytes its records have.
-fn print_voice(rt: &impl Print, name: &[u8], voice: Voice, bytes: usize) -> io::Result<()> {
-    let configuration = voice.configuration;
-    rt.write_all(name)?;
-    print_named(rt, b"nmcp ", configuration.nmcp as u64)?;
-    print_named(rt, b", nlpf ", configuration.nlpf as u64)?;
-    print_named(rt, b", stage ", configuration.stage)?;
-    print_named(rt, b", meter ", voice.meter)?;
-    print_named(rt, b", left ", voice.left as u64)?;
-    print_named(rt, b": ", bytes as u64)?;
-    rt.write_all(b" bytes\n")
-}
-
-// Damages the records of a voice with those counts. The tests are for the indices: every voice has 1,488 to 14,672 bytes.
-fn damage(
-    rt: &impl Print,
-    nmcp: usize,
-    nlpf: usize,
-    stage: u64,
-    fperiod: usize,
-    other: Voice,
-    kept: &[u8],
-) -> io::Result<()>
-    requires { (nmcp ≤ 64) × (nlpf ≤ 64) }
+// Damages the records of a voice of that configuration. The test is for the indices: every voice has 1,488 to 14,672 bytes.
+fn damage(rt: &impl Print, configuration: Configuration, other: Other) -> io::Result<()>
+    requires { (configuration.nmcp ≤ 64) × (configuration.nlpf ≤ 64) }
 {
-    let voice = made::voice(nmcp, nlpf, stage, fperiod);
+    let voice = made::voice(configuration);
     let mut room = [0; 14720];
-    let saved = rest::save(voice, &mut room);
-    let count = saved.bytes;
-    print_voice(rt, b"", voice, count)?;
-    if count < 1488 {
+    let count = rest::save(voice, &mut room).bytes;
+    print_voice(rt, "", voice, count)?;
+    if count < 1488 || count > 14672 {
         return Ok(());
     }
-    if count > 14672 {
-        return Ok(());
-    }
-    lengths::all(rt, &mut room, count, other, kept)?;
-    changes::all(rt, &mut room[0..count], other, kept)
-}
-
-// Damages the records of the three voices, and restores them into the other one, whose records are kept.
-fn damage_all(rt: &impl Print, other: Voice, kept: &[u8]) -> io::Result<()> {
-    damage(rt, 25, 31, 0, 80, other, kept)?;
-    damage(rt, 5, 2, 3, 5, other, kept)?;
-    damage(rt, 2, 0, 0, 5, other, kept)
+    lengths::all(rt, &mut room, count, other)?;
+    changes::all(rt, &mut room[..count], other)
 }
 
 fn main(rt: HostRuntime) -> io::Result<()> {
-    let other = made::voice(3, 1, 1, 7);
+    let voice = made::voice(configuration(3, 1, 1, 7));
     let mut kept = [0; 14672];
-    let saved = rest::save(other, &mut kept);
-    let count = saved.bytes;
-    print_voice(&rt, b"into ", other, count)?;
-    if count <= 14672 {
-        damage_all(&rt, other, &kept[0..count])?;
+    let count = rest::save(voice, &mut kept).bytes;
+    print_voice(&rt, "into ", voice, count)?;
+    if count > 14672 {
+        return Ok(());
     }
-    Ok(())
+    let other = Other {
+        voice,
+        kept: &kept[..count],
+    };
+    damage(&rt, configuration(25, 31, 0, 80), other)?;
+    damage(&rt, configuration(5, 2, 3, 5), other)?;
+    damage(&rt, configuration(2, 0, 0, 5), other)
 }

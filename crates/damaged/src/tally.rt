@@ -1,15 +1,28 @@
 // What became of the damaged records.
-use number::wrapping::wrapping_add;
 use std::io;
 use voice::Voice;
-use voice::answers::{DONE, RECORDS_WRONG};
+use voice::answers::{DONE, Refusal};
 
 // How many were refused and how many accepted, and how many broke the rule.
 #[derive(Clone, Copy)]
 pub struct Tally {
-    pub refused: u64,
-    pub accepted: u64,
-    pub broken: u64,
+    refused: u64,
+    accepted: u64,
+    broken: u64,
+}
+
+// The voice that records are restored into, and its own records.
+#[derive(Clone, Copy)]
+pub struct Other<'a> {
+    pub voice: Voice,
+    pub kept: &'a [u8],
+}
+
+// Whether a save of the voice gives exactly these bytes.
+fn saves(voice: Voice, these: &[u8]) -> bool {
+    let mut bytes = [0; 14672];
+    let saved = rest::save(voice, &mut bytes);
+    (saved.bytes == these.len()) & bytes.starts_with(these)
 }
 
 impl Tally {
@@ -22,61 +35,34 @@ impl Tally {
     }
 
     // One more.
-    pub fn with(self, number: u64, kept: bool) -> Self {
+    fn with(self, number: u64, kept: bool) -> Self {
         Self {
-            refused: wrapping_add(self.refused, (number != DONE) as u64),
-            accepted: wrapping_add(self.accepted, (number == DONE) as u64),
-            broken: wrapping_add(self.broken, !kept as u64),
+            refused: self.refused.wrapping_add(u64::from(number != DONE)),
+            accepted: self.accepted.wrapping_add(u64::from(number == DONE)),
+            broken: self.broken.wrapping_add(u64::from(!kept)),
         }
     }
-}
 
-// Whether the bytes begin with these.
-fn begins(bytes: &[u8], these: &[u8]) -> bool {
-    for i in 0..these.len() {
-        if i >= bytes.len() {
-            return false;
-        }
-        if bytes[i] != these[i] {
-            return false;
-        }
+    // Restores the bytes into the other voice.
+    pub fn attempt(self, bytes: &[u8], other: Other) -> Self {
+        let answered = rest::restore(other.voice, bytes);
+        let number = answered.number;
+        let kept = if number == DONE {
+            saves(answered.voice, bytes)
+        } else {
+            (number == Refusal::RecordsWrong.number()) & saves(answered.voice, other.kept)
+        };
+        self.with(number, kept)
     }
-    true
-}
 
-// Whether a save of the voice gives exactly these bytes.
-fn saves(voice: Voice, these: &[u8]) -> bool {
-    let mut bytes = [0; 14672];
-    let saved = rest::save(voice, &mut bytes);
-    (saved.bytes == these.len()) & begins(&bytes, these)
-}
-
-// Restores the bytes into the other voice, whose records are kept.
-pub fn attempt(before: Tally, bytes: &[u8], other: Voice, kept: &[u8]) -> Tally {
-    let answered = rest::restore(other, bytes);
-    let number = answered.number;
-    if number == DONE {
-        return before.with(number, saves(answered.voice, bytes));
+    // Writes what became of the records damaged so.
+    pub fn print(self, rt: &impl Print, kind: &str) -> io::Result<()> {
+        let refused = self.refused;
+        let accepted = self.accepted;
+        let broken = self.broken;
+        let tried = refused.wrapping_add(accepted);
+        println!(rt;
+            "  {kind}: {tried} tried, {refused} refused, {accepted} accepted, {broken} broke the rule"
+        )
     }
-    before.with(
-        number,
-        (number == RECORDS_WRONG) & saves(answered.voice, kept),
-    )
-}
-
-// Writes a number and what it counts.
-fn print_count(rt: &impl Print, n: u64, what: &[u8]) -> io::Result<()> {
-    print!(rt; "{n}")?;
-    rt.write_all(what)
-}
-
-// Writes what became of the records damaged so.
-pub fn print(rt: &impl Print, kind: &[u8], tally: Tally) -> io::Result<()> {
-    rt.write_all(b"  ")?;
-    rt.write_all(kind)?;
-    rt.write_all(b": ")?;
-    print_count(rt, wrapping_add(tally.refused, tally.accepted), b" tried, ")?;
-    print_count(rt, tally.refused, b" refused, ")?;
-    print_count(rt, tally.accepted, b" accepted, ")?;
-    print_count(rt, tally.broken, b" broke the rule\n")
 }

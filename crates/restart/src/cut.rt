@@ -1,8 +1,11 @@
 // A frame in draws of awkward lengths, with refused calls and restarts in between.
 ghost use Rattle.std.specs.Prelude.{◌≤◌};
 
-use crate::run::{Run, hear, restarted};
-use crate::{calls, others, say};
+use crate::calls;
+use crate::counts::Counts;
+use crate::others::Kind;
+use crate::run::Run;
+use refusing::Frame;
 use std::io;
 use voice::Voice;
 
@@ -28,109 +31,70 @@ fn length_after(draws: u64) -> usize
 }
 
 // Makes a call that is refused while samples are left: four of them in turn.
-fn refused(
-    voice: Voice,
-    draws: u64,
-    lf0: f64,
-    spectrum: &[f64],
-    lpf: &[f64],
-    counts: &mut [u64],
-) -> Voice {
-    let turn = draws % 4;
-    if turn == 0 {
-        return calls::give(voice, lf0, spectrum, lpf, counts);
+fn refused(before: Run, frame: Frame, counts: &mut Counts) -> Voice {
+    let voice = before.voice;
+    match before.draws % 4 {
+        0 => calls::give(voice, frame, counts),
+        1 => calls::whole_without_room(voice, frame, counts),
+        2 => calls::restore_damaged(voice, counts),
+        _ => {
+            calls::save_short(voice, counts);
+            voice
+        }
     }
-    if turn == 1 {
-        return calls::whole_without_room(voice, lf0, spectrum, lpf, counts);
-    }
-    if turn == 2 {
-        return calls::restore_damaged(voice, counts);
-    }
-    calls::save_short(voice, counts);
-    voice
-}
-
-// Draws as many samples as there is room for.
-fn draw(before: Run, voice: Voice, out: &mut [f64], counts: &mut [u64]) -> Run {
-    let drawn = drawing::draw(voice, out, 0);
-    calls::count(counts, drawn.number);
-    hear(before, drawn.voice, out, drawn.made)
 }
 
 // Draws once, by the next length.
-fn draw_next(before: Run, voice: Voice, counts: &mut [u64]) -> Run {
+fn draw_next(before: Run, voice: Voice, counts: &mut Counts) -> Run {
     let length = length_after(before.draws);
-    let mut out = [0.0; 240];
-    draw(before, voice, &mut out[0..length], counts)
+    let mut room = [0.0; 240];
+    let out = &mut room[..length];
+    let drawn = drawing::draw(voice, out, 0);
+    counts.count(drawn.number);
+    before.hear(drawn.voice, out, drawn.made)
 }
 
 // Restarts in another voice, where it is time for that.
-fn restart(rt: &impl Print, before: Run, counts: &mut [u64]) -> io::Result<Run> {
-    let voice = before.voice;
+fn restart(rt: &impl Print, before: Run, counts: &mut Counts) -> io::Result<Run> {
     if before.draws % RESTART != 0 {
         return Ok(before);
     }
-    say::text(rt, b"cut: restart at sample ")?;
-    say::number(rt, voice.meter)?;
-    say::text(rt, b" into ")?;
-    let other = others::other(before.restarts);
-    others::say_kind(rt, before.restarts, other.left)?;
-    Ok(restarted(before, calls::restart(voice, other, counts)))
+    let voice = before.voice;
+    let meter = voice.meter;
+    print!(rt; "cut: restart at sample {meter} into ")?;
+    let kind = Kind::after(before.restarts);
+    let other = kind.voice();
+    kind.print(rt, other.left)?;
+    Ok(before.restarted(calls::restart(voice, other, counts)))
 }
 
 // A refused call, a draw, and a restart where it is time for one.
-fn piece(
-    rt: &impl Print,
-    before: Run,
-    lf0: f64,
-    spectrum: &[f64],
-    lpf: &[f64],
-    counts: &mut [u64],
-) -> io::Result<Run> {
-    let voice = refused(before.voice, before.draws, lf0, spectrum, lpf, counts);
+fn piece(rt: &impl Print, before: Run, frame: Frame, counts: &mut Counts) -> io::Result<Run> {
+    let voice = refused(before, frame, counts);
     let drawn = draw_next(before, voice, counts);
     restart(rt, drawn, counts)
 }
 
 // Draws what is left of the frame.
-fn draw_all(
-    rt: &impl Print,
-    given: Run,
-    lf0: f64,
-    spectrum: &[f64],
-    lpf: &[f64],
-    counts: &mut [u64],
-) -> io::Result<Run> {
+fn draw_all(rt: &impl Print, given: Run, frame: Frame, counts: &mut Counts) -> io::Result<Run> {
     let mut run = given;
     for _ in 0..MOST_DRAWS {
-        let voice = run.voice;
-        if voice.left == 0 {
+        if run.voice.left == 0 {
             return Ok(run);
         }
-        run = piece(rt, run, lf0, spectrum, lpf, counts)?;
+        run = piece(rt, run, frame, counts)?;
     }
     Ok(run)
-}
-
-// The rendering with another voice, as it is after a call that makes no sample.
-fn with_voice(before: Run, voice: Voice) -> Run {
-    let mut run = before;
-    run.voice = voice;
-    run
 }
 
 // Gives a frame, draws it to its end, and asks for one sample more.
 pub fn cut_frame(
     rt: &impl Print,
     before: Run,
-    lf0: f64,
-    spectrum: &[f64],
-    lpf: &[f64],
-    counts: &mut [u64],
+    frame: Frame,
+    counts: &mut Counts,
 ) -> io::Result<Run> {
-    let voice = calls::give(before.voice, lf0, spectrum, lpf, counts);
-    let given = with_voice(before, voice);
-    let drawn = draw_all(rt, given, lf0, spectrum, lpf, counts)?;
-    let after = calls::draw_one(drawn.voice, counts);
-    Ok(with_voice(drawn, after))
+    let given = before.with_voice(calls::give(before.voice, frame, counts));
+    let drawn = draw_all(rt, given, frame, counts)?;
+    Ok(drawn.with_voice(calls::draw_one(drawn.voice, counts)))
 }

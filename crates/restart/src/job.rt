@@ -2,11 +2,31 @@
 ghost use Rattle.std.specs.Prelude.{◌≡◌, ◌+◌, ◌*◌, ◌≤◌, length};
 
 use configuration::Configuration;
+use std::fmt;
+
+// Why a job is not rendered.
+#[derive(Clone, Copy)]
+pub enum Fault {
+    CutOff,
+    PastLimit,
+    WrongLength,
+}
+
+impl fmt::Display for Fault {
+    fn fmt<W: fmt::Write>(&self, f: &mut fmt::Formatter<W>) -> fmt::Result {
+        match self {
+            Fault::CutOff => write!(f, "the job is cut off"),
+            Fault::PastLimit => write!(f, "the job is past a limit"),
+            Fault::WrongLength => write!(f, "the job is not as long as it says"),
+        }
+    }
+}
 
 // Where the frames begin: after the configuration and the count.
 pub const FRAMES_AT: usize = 221;
 
-// The configuration at the front.
+// The configuration at the front. Much as `configuration_at` of voices: one reader would put the crate configuration below `words`, and so
+// below every program.
 pub fn configuration(text: &[u8]) -> Configuration
     requires { 17 * 13 ≤ length text.now }
 {
@@ -48,13 +68,13 @@ pub fn is_whole(bytes: usize, count: usize, size: usize) -> bool
     (bytes / size == count) & (bytes % size == 0)
 }
 
-// Reads the frame at `at`, and answers its log F0.
-pub fn read_frame(frames: &[u8], at: usize, spectrum: &mut [f64], lpf: &mut [f64]) -> f64
-    requires lpf_in_bounds { at + 17 * (1 + length spectrum.old + length lpf.old) ≤ length frames.now }
+// Reads the frame, and answers its log F0.
+pub fn read_frame(frame: &[u8], spectrum: &mut [f64], lpf: &mut [f64]) -> f64
+    requires lpf_in_bounds { 17 * (1 + length spectrum.old + length lpf.old) ≤ length frame.now }
     requires spectrum_len_bound { (length spectrum.old ≤ 64) × (length lpf.old ≤ 64) }
 {
-    let lpf_at = at + 17 * (1 + spectrum.len());
-    words::floats(frames, at + 17, spectrum);
-    words::floats(frames, lpf_at, lpf);
-    words::float(frames, at)
+    let lpf_at = 17 * (1 + spectrum.len());
+    words::floats(frame, 17, spectrum);
+    words::floats(frame, lpf_at, lpf);
+    words::float(frame, 0)
 }

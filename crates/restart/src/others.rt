@@ -1,13 +1,18 @@
 // The voices that a restart goes into, each with something of its own that must not remain.
-use crate::say;
 use configuration::Configuration;
+use refusing::Frame;
 use std::io;
 use voice::Voice;
 
-// The kinds. A busy one is what none of these is.
-const FRESH: u64 = 0;
-
-const IDLE: u64 = 1;
+#[derive(Clone, Copy)]
+pub enum Kind {
+    // Of another configuration.
+    Fresh,
+    // What a refused open returns.
+    Idle,
+    // In the middle of a frame, with all of its arrays in use.
+    Busy,
+}
 
 // A configuration of that stage; the other slots are unlike those of a usual job.
 fn configuration(nmcp: usize, nlpf: usize, stage: u64) -> Configuration {
@@ -27,51 +32,42 @@ fn configuration(nmcp: usize, nlpf: usize, stage: u64) -> Configuration {
     }
 }
 
-// A fresh voice of another configuration.
-fn fresh() -> Voice {
-    let opened = voice::open(configuration(5, 2, 3));
-    opened.voice
-}
-
-// The idle voice: what a refused open returns.
-fn idle() -> Voice {
-    let opened = voice::open(configuration(0, 0, 0));
-    opened.voice
-}
-
-// A voice in the middle of a frame, with all of its arrays in use.
 fn busy() -> Voice {
     let opened = voice::open(configuration(64, 64, 0));
-    let spectrum = [0.01; 64];
-    let lpf = [0.02; 64];
-    let given = giving::give(opened.voice, 5.0, &spectrum, &lpf);
+    let frame = Frame {
+        lf0: 5.0,
+        spectrum: &[0.01; 64],
+        lpf: &[0.02; 64],
+    };
+    let given = giving::give(opened.voice, frame);
     let mut out = [0.0; 17];
-    let drawn = drawing::draw(given.voice, &mut out, 0);
-    drawn.voice
+    drawing::draw(given.voice, &mut out, 0).voice
 }
 
-// The voice for the next restart: the kinds in turn.
-pub fn other(restarts: u64) -> Voice {
-    let kind = restarts % 3;
-    if kind == FRESH {
-        return fresh();
+impl Kind {
+    // The kind for the next restart: in turn.
+    pub fn after(restarts: u64) -> Self {
+        match restarts % 3 {
+            0 => Kind::Fresh,
+            1 => Kind::Idle,
+            _ => Kind::Busy,
+        }
     }
-    if kind == IDLE {
-        return idle();
-    }
-    busy()
-}
 
-// Writes what kind it is.
-pub fn say_kind(rt: &impl Print, restarts: u64, left: usize) -> io::Result<()> {
-    let kind = restarts % 3;
-    if kind == FRESH {
-        return say::line(rt, b"a fresh voice of another configuration");
+    pub fn voice(self) -> Voice {
+        match self {
+            Kind::Fresh => voice::open(configuration(5, 2, 3)).voice,
+            Kind::Idle => voice::open(configuration(0, 0, 0)).voice,
+            Kind::Busy => busy(),
+        }
     }
-    if kind == IDLE {
-        return say::line(rt, b"the idle voice");
+
+    // Writes what kind it is, with so many samples left.
+    pub fn print(self, rt: &impl Print, left: usize) -> io::Result<()> {
+        match self {
+            Kind::Fresh => println!(rt; "a fresh voice of another configuration"),
+            Kind::Idle => println!(rt; "the idle voice"),
+            Kind::Busy => println!(rt; "a busy voice with {left} samples left"),
+        }
     }
-    say::text(rt, b"a busy voice with ")?;
-    say::number(rt, left as u64)?;
-    say::line(rt, b" samples left")
 }

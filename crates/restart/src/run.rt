@@ -1,6 +1,6 @@
 // A rendering, as far as it has come.
 use number::bits::bits_of;
-use number::wrapping::{wrapping_add, wrapping_mul};
+use std::fmt;
 use voice::Voice;
 
 // The voice; how many samples it made, and a checksum of their bits; how many draws (or whole frames) and restarts there were.
@@ -11,6 +11,35 @@ pub struct Run {
     pub sum: u64,
     pub draws: u64,
     pub restarts: u64,
+}
+
+// What a rendering came to: two are the same where these are.
+#[derive(Clone, Copy, PartialEq, Eq)]
+pub struct Outcome {
+    meter: u64,
+    samples: u64,
+    sum: u64,
+}
+
+impl fmt::Display for Outcome {
+    fn fmt<W: fmt::Write>(&self, f: &mut fmt::Formatter<W>) -> fmt::Result {
+        let meter = self.meter;
+        let samples = self.samples;
+        let sum = self.sum;
+        write!(f, "meter {meter}, {samples} samples, checksum {sum:016x}")
+    }
+}
+
+// What a checksum is multiplied by before the next bits are added: odd, so that none are lost.
+const FACTOR: u64 = 6364136223846793005;
+
+// The checksum after so many of the samples.
+fn summed(before: u64, samples: &[f64], made: usize) -> u64 {
+    let mut sum = before;
+    for x in samples.iter().take(made) {
+        sum = sum.wrapping_mul(FACTOR).wrapping_add(bits_of(*x));
+    }
+    sum
 }
 
 impl Run {
@@ -24,48 +53,37 @@ impl Run {
             restarts: 0,
         }
     }
-}
 
-// What a checksum is multiplied by before the next bits are added: odd, so that none are lost.
-const FACTOR: u64 = 6364136223846793005;
-
-// The checksum after so many of the samples.
-fn summed(before: u64, samples: &[f64], made: usize) -> u64 {
-    let mut sum = before;
-    for i in 0..samples.len() {
-        if i == made {
-            return sum;
+    // After a call that made so many of the samples and led to that voice.
+    pub fn hear(self, voice: Voice, samples: &[f64], made: usize) -> Self {
+        Self {
+            voice,
+            samples: self.samples.wrapping_add(made as u64),
+            sum: summed(self.sum, samples, made),
+            draws: self.draws.wrapping_add(1),
+            ..self
         }
-        sum = wrapping_add(wrapping_mul(sum, FACTOR), bits_of(samples[i]));
     }
-    sum
-}
 
-// After a call that made so many of the samples and led to that voice.
-pub fn hear(before: Run, after: Voice, samples: &[f64], made: usize) -> Run {
-    Run {
-        voice: after,
-        samples: wrapping_add(before.samples, made as u64),
-        sum: summed(before.sum, samples, made),
-        draws: wrapping_add(before.draws, 1),
-        restarts: before.restarts,
+    // After a restart.
+    pub fn restarted(self, voice: Voice) -> Self {
+        Self {
+            voice,
+            restarts: self.restarts.wrapping_add(1),
+            ..self
+        }
     }
-}
 
-// After a restart.
-pub fn restarted(before: Run, after: Voice) -> Run {
-    Run {
-        voice: after,
-        samples: before.samples,
-        sum: before.sum,
-        draws: before.draws,
-        restarts: wrapping_add(before.restarts, 1),
+    // With another voice, as it is after a call that makes no sample.
+    pub fn with_voice(self, voice: Voice) -> Self {
+        Self { voice, ..self }
     }
-}
 
-// Whether two came to the same.
-pub fn same(a: Run, b: Run) -> bool {
-    let one = a.voice;
-    let other = b.voice;
-    (one.meter == other.meter) & (a.samples == b.samples) & (a.sum == b.sum)
+    pub fn outcome(&self) -> Outcome {
+        Outcome {
+            meter: self.voice.meter,
+            samples: self.samples,
+            sum: self.sum,
+        }
+    }
 }

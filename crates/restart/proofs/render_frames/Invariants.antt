@@ -1,9 +1,0 @@
--- `render_frames` stays within the frames.
-use Rattle.std.proofs.Common.{◌-◌, ◌≤◌, length}
-use Rattle.restart.proofs.render_frames.Given as goal
-
-abbrev pub invariant-loop-at : goal.invariant-loop-at
-invariant-loop-at g l = l.at ≤ length l.frames
-
-abbrev pub decreases-loop-at : goal.decreases-loop-at
-decreases-loop-at g l = length l.frames - l.at
