@@ -19,7 +19,13 @@ fn sharpen(b: &mut [f64], alpha: f64, beta: f64)
 }
 
 // The postfilter where it acts, with room for the coefficients as they are and sharpened.
-fn filter_in(c: &mut [f64], alpha: f64, beta: f64, b: &mut [f64], t: &mut [f64]) -> Result<(), Outside>
+fn filter_in(
+    c: &mut [f64],
+    alpha: f64,
+    beta: f64,
+    b: &mut [f64],
+    t: &mut [f64],
+) -> Result<(), Outside>
     requires { (2 < length c.old) × (length c.old ≤ 64) × (length b.old ≡ length c.old) × (length t.old ≡ length c.old) }
     ensures value { result ≡ prepared_of (filtered_mcp alpha beta c.old) }
     ensures c_after { c.new ≡ or_else c.old (filtered_mcp alpha beta c.old) }
