@@ -35,14 +35,6 @@ fn prepare(
     }
 }
 
-// The number of an answer.
-fn number(prepared: Result<(), Outside>) -> u64 {
-    match prepared {
-        Ok(()) => 0,
-        Err(Outside) => 9,
-    }
-}
-
 // Replays the case at `at`, with room for its spectrum and for what comes of it.
 fn replay_case(
     rt: &impl Print,
@@ -60,7 +52,7 @@ fn replay_case(
     words::floats(text, at + 17 * 6, spectrum);
     words::floats(text, at + 17 * (6 + spectrum.len()), start);
     let prepared = prepare(text, at, stage, spectrum, start, targets);
-    words::print_word(rt, number(prepared))?;
+    words::print_word(rt, limits::number(prepared))?;
     words::print_floats(rt, start)?;
     words::print_floats(rt, targets)
 }
