@@ -1,4 +1,5 @@
 // From a mel-cepstrum c.
+// `unwarp` is no twin of `b2mc`: it reads what it has made, and that what it was given.
 ghost use Rattle.std.specs.Prelude.{◌≡◌, ◌++◌, ◌+◌, ◌-◌, ◌≤◌, ◌<◌, length, take, drop};
 ghost use Rattle.number.specs.F64.{0f};
 ghost use Rattle.vectors.specs.Vectors.{sum_from};

@@ -1,4 +1,5 @@
 // The delay line: what is added to its taps, and what goes out.
+// That the line has a tap is a clause, since the type of a slice says no length.
 #![tactic(auto)]
 
 ghost use Rattle.std.specs.Prelude.{◌≡◌, ◌<◌, length};

@@ -1,5 +1,6 @@
 // The delay line in a window that slides along the samples: sample i works on the taps from i on, and nothing is shifted.
 // Each function answers how many samples were made.
+// The window is an array of the largest size: fixed memory.
 ghost use Rattle.std.specs.Prelude.{◌≡◌, ◌+◌, ◌<◌, ◌≤◌, length};
 ghost use Rattle.excitation.specs.Excitation.{state};
 ghost use Rattle.excitation.specs.Window.{line_at, ZeroFrom, Stretches};

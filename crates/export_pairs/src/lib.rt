@@ -1,5 +1,6 @@
 // What C and Rust reach of generalized cepstra and line spectral pairs, under C names. Each function is the one that it calls, behind a
 // test of its lengths.
+// C wants numbers: 0 done, 1 a length or a stage that is not taken, 9 outside.
 #![tactic(auto)]
 
 ghost use Rattle.std.specs.Prelude.{◌≡◌, [], ◌∷◌, ◌&&◌, ◌+◌, leb, eqb, length};

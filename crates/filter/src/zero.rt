@@ -1,4 +1,5 @@
 // Stage 0.
+// The taps are lent one by one, as C has them; the pairs lie in arrays of the largest size: fixed memory.
 ghost use Rattle.std.specs.Prelude.{◌≡◌, ◌*◌, ◌≤◌, length};
 ghost use Rattle.history.specs.Through.{passage, through};
 ghost use Rattle.mlsa.specs.Mlsa.{filter};

@@ -149,7 +149,7 @@ fn replay_case(
     Ok(Some(size))
 }
 
-// Replays the cases, one after the other.
+// Replays the cases, one after the other. A while: each case says how long it is.
 fn replay(rt: &impl Print, text: &[u8]) -> io::Result<()> {
     let mut at = 0;
     while 17 * 5 <= text.len() - at {

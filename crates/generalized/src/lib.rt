@@ -1,4 +1,5 @@
 // The generalized cepstrum of a stage s from 1 to 8, for which gamma is -1 / s: with and without its gain normalised.
+// That s is up to 8 and how long a slice is are clauses: a type around one number, or around a slice that is lent, is no plainer.
 #![tactic(auto)]
 
 ghost use Rattle.std.specs.Prelude.{◌≡◌, ◌-◌, ◌≤◌, ◌<◌, length};

@@ -12,7 +12,7 @@ use std::io;
 // A log F0 that is fine.
 const LF0: f64 = 5.0;
 
-// Mel-cepstra of the usual order, without filter taps.
+// Mel-cepstra of the usual order, without filter taps. Not shared: each program has numbers of its own.
 fn configuration() -> Configuration {
     Configuration {
         nmcp: 25,

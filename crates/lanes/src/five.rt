@@ -1,6 +1,7 @@
 // The filter `fir` on five rows of taps at once: two pairs of lanes, and a row by itself. In one loop the five chains of sums, each of which has to wait
 // for itself, fill the time of one. The rows go as `first`, `second`, `last`: a struct of three `&mut` would want a clause for each, in every function
 // that takes it, that the reference is still the same.
+// `start_all`, `group_all` and `tap_all` stay three: their steps take other arguments.
 ghost use Rattle.std.specs.Prelude.{◌≡◌, ℕ, ◌+◌, ◌-◌, ◌*◌, ◌/◌, ◌≤◌, ◌<◌, length};
 ghost use Rattle.fir.specs.Fir.{start, group, tap, groups, singles, fir_of};
 ghost use Rattle.lanes.specs.Rows.{row_at, number_at, taps_at};

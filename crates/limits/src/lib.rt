@@ -1,4 +1,5 @@
 // The tests of the functions under C names, and the number of an answer.
+// C wants numbers, so 0 and 9 stay here.
 #![tactic(auto)]
 
 ghost use Rattle.std.specs.Prelude.{◌≡◌};

@@ -1,4 +1,6 @@
 // Line spectral pairs: to the mel-generalized cepstrum, by way of linear prediction (`lattice`), and their energy.
+// Room is in arrays of the largest size: fixed memory. That s is up to 8 and how long a slice is are clauses: a type around one number, or around a slice that is
+// lent, is no plainer.
 #![tactic(auto)]
 
 ghost use Rattle.std.specs.Prelude.{◌≡◌, ◌+◌, ◌≤◌, length};

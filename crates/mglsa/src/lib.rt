@@ -1,4 +1,5 @@
 // The filter of the stages from 1 on, mglsa.rs: a row of taps for each stage.
+// How many taps and rows there are is in clauses, since the lists are lent and the type of a slice says no length.
 #![tactic(auto)]
 
 mod pair;

@@ -1,4 +1,5 @@
 // The postfilter of a mel-cepstrum.
+// Room is in arrays of the largest size: fixed memory.
 ghost use Rattle.std.specs.Prelude.{◌≡◌, ◌≤◌, ◌<◌, length};
 ghost use Rattle.elementary.specs.Outcome.{prepared_of, or_else};
 ghost use Rattle.postfilter.specs.Mel.{sharpened_of, filtered_mcp, postfilter_mcp_of};

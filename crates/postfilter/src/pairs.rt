@@ -1,4 +1,5 @@
 // The postfilter of line spectral pairs.
+// Room is in an array of the largest size: fixed memory.
 ghost use Rattle.std.specs.Prelude.{◌≡◌, ◌≤◌, ◌<◌, length};
 ghost use Rattle.elementary.specs.Outcome.{prepared_of, or_else, answer_of};
 ghost use Rattle.postfilter.specs.Pairs.{moved_of, moves_of, spread_entry, spread_of, levelled, filtered_lsp, postfilter_lsp_of};

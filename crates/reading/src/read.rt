@@ -1,4 +1,5 @@
 // The voice that values of slots make.
+// The arrays are a voice's, of the largest size: fixed memory.
 ghost use Rattle.std.specs.Prelude.{true, map, ◌≡◌, ◌+◌, ◌*◌, ◌≤◌, length, take, drop};
 ghost use Rattle.number.specs.Bits.{float_of};
 ghost use Rattle.slots.specs.Slots.{array_at, filter_count, pulse_in, random_in, zero_in, zero_for, nonzero_in, nonzero_for, voice_in};

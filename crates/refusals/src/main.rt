@@ -28,7 +28,7 @@ const BEYOND: f64 = -2097152.0;
 // A log F0 that is fine.
 const LF0: f64 = 5.0;
 
-// Line spectral pairs without postfilter: the repair then brings a first pair of any size back, and only a gain of 0 is outside.
+// Numbers of this program's own. Line spectral pairs without postfilter: the repair then brings a first pair of any size back, and only a gain of 0 is outside.
 fn configuration() -> Configuration {
     Configuration {
         nmcp: 4,

@@ -1,4 +1,5 @@
 // Save and restore: a voice as rest records, and back.
+// C reads the numbers of what is answered. The slots lie in arrays of the largest size: fixed memory.
 #![tactic(auto)]
 
 ghost use Rattle.std.specs.Prelude.{true, ◌≡◌, ◌*◌, ◌≤◌, length};

@@ -68,10 +68,7 @@ pub(crate) fn bytes_in(width: Width) -> usize
 pub(crate) fn bits_in(width: Width) -> u64
     ensures { result ≡ bits_in width }
 {
-    match width {
-        Width::Sixteen => 16,
-        Width::TwentyFour => 24,
-    }
+    8 * bytes_in(width) as u64
 }
 
 // Whether a file of n samples can be. The count is tested before it is multiplied, so that nothing overflows.

@@ -1,4 +1,5 @@
 // The root of a whole number digit by digit: plain, and right for every number.
+// That m is below 2^54 is a clause here and in `checked`: a type around one number is no plainer.
 ghost use Rattle.std.specs.Prelude.{◌≡◌, ◌+◌, ◌*◌, ◌^◌, ◌<◌, ◌≤◌};
 ghost use Rattle.root.specs.Parts.{NearestTo};
 

@@ -1,4 +1,5 @@
 // The square root of IEEE 754, correctly rounded, on the bit pattern in whole numbers.
+// It stands beside std's: `root_nearest` and `root_only` are about this one, and it takes an estimate that a loop may make.
 #![tactic(auto)]
 
 ghost use Rattle.std.specs.Prelude.{◌≡◌, ◌<◌, ◌≤◌};

@@ -1,4 +1,5 @@
 // The values of a voice's slots.
+// That the limits are kept is a clause of each part: a type for it would be put on and taken off around a voice that C hands in.
 ghost use Rattle.std.specs.Prelude.{true, map, ◌≡◌, ◌+◌, ◌*◌, ◌≤◌, ◌<◌, length};
 ghost use Rattle.std.proofs.lemmas.List.Edits.{sets};
 ghost use Rattle.number.specs.Bits.{bits_of};

@@ -1,4 +1,5 @@
 // Where the parts of a voice's slots begin, and what a flag says.
+// That nlpf and nmcp are up to 64 is in clauses: a type around one number, made at every call, is no plainer.
 ghost use Rattle.std.specs.Prelude.{not, ◌≡◌, ◌+◌, ◌≤◌, eqb};
 ghost use Rattle.slots.specs.Slots.{noise_at, queue_at, spectrum_at, filter_at};
 

@@ -243,7 +243,7 @@ fn replay_case(rt: &impl Print, text: &[u8], at: usize) -> io::Result<Option<usi
     Ok(Some(replayed.end))
 }
 
-// Replays the cases, one after the other.
+// Replays the cases, one after the other. A while: each case says how long it is.
 fn replay(rt: &impl Print, text: &[u8]) -> io::Result<()> {
     let mut at = 0;
     while 17 * 13 <= text.len() - at {

@@ -1,4 +1,5 @@
 // Text of one word a line: sixteen hexadecimal digits, the bits of a number, and a line end.
+// The programs read 65,536 bytes at most and nothing past them, so their buffers are of that size.
 #![tactic(auto)]
 
 ghost use Rattle.std.specs.Prelude.{◌+◌, ◌*◌, ◌≤◌, ◌<◌, IfOk, length};
@@ -6,7 +7,7 @@ ghost use Rattle.std.specs.Prelude.{◌+◌, ◌*◌, ◌≤◌, ◌<◌, IfOk, 
 use std::io;
 use std::io::Read;
 
-// The value of a digit. Any other character counts as 0.
+// The value of a digit. Any other character counts as 0, as the programs have always taken it.
 fn digit(c: u8) -> u64
     ensures { result < 16 }
 {
@@ -44,7 +45,7 @@ pub fn floats(text: &[u8], at: usize, values: &mut [f64])
     }
 }
 
-// Reads into the text until it is full or the input ends, and answers how many bytes there are.
+// Reads into the text until it is full or the input ends, and answers how many bytes there are. A while: it goes on by as much as comes.
 pub fn read(input: &mut impl Read, text: &mut [u8]) -> io::Result<usize>
     ensures { IfOk result (λ n. n ≤ length text.new) }
 {
