@@ -11,8 +11,8 @@ fn turn_bits(before: Tally, records: &mut [u8], at: usize, other: Other) -> Tall
 {
     let byte = records[at];
     let mut tally = before;
-    for bit in 0..8 {
-        records[at] = byte ^ (1 << bit);
+    for bit in [1, 2, 4, 8, 16, 32, 64, 128] {
+        records[at] = byte ^ bit;
         tally = tally.attempt(records, other);
     }
     records[at] = byte;
