@@ -3,6 +3,7 @@ use std::io;
 use voice::answers::DONE;
 
 // At the numbers of the refusals.
+#[derive(Clone, Copy)]
 pub struct Counts {
     times: [u64; 15],
 }

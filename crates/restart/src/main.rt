@@ -21,14 +21,45 @@ use std::io;
 use voice::Voice;
 use voice::answers::DONE;
 
+// How the frames are rendered. An enum and no closure, since each way has a name beside its step.
+#[derive(Clone, Copy)]
+enum Way {
+    Uncut,
+    Cut,
+}
+
+impl Way {
+    fn name(self) -> &'static str {
+        match self {
+            Way::Uncut => "uncut",
+            Way::Cut => "cut",
+        }
+    }
+
+    // Renders a frame.
+    fn render_frame(
+        self,
+        rt: &impl Print,
+        before: Run,
+        frame: Frame,
+        counts: &mut Counts,
+    ) -> io::Result<Run> {
+        match self {
+            Way::Uncut => Ok(calls::whole_frame(before, frame, counts)),
+            Way::Cut => cut::cut_frame(rt, before, frame, counts),
+        }
+    }
+}
+
 // Renders the frames, one after the other, with room for the numbers of one.
 fn render_frames(
+    rt: &impl Print,
+    way: Way,
     frames: &[u8],
     opened: Run,
     spectrum: &mut [f64],
     lpf: &mut [f64],
     counts: &mut Counts,
-    render_frame: impl Fn(Run, Frame, &mut Counts) -> io::Result<Run>,
 ) -> io::Result<Run>
     requires { (length spectrum.old ≤ 64) × (length lpf.old ≤ 64) }
 {
@@ -36,32 +67,28 @@ fn render_frames(
     for words in frames.chunks_exact(job::size(spectrum.len(), lpf.len())) {
         let lf0 = job::read_frame(words, spectrum, lpf);
         let frame = Frame { lf0, spectrum, lpf };
-        run = render_frame(run, frame, counts)?;
+        run = way.render_frame(rt, run, frame, counts)?;
     }
     Ok(run)
 }
 
 // Renders the frames by a voice that was opened for them, and writes what it came to.
-fn render(
-    rt: &impl Print,
-    name: &str,
-    frames: &[u8],
-    opened: Voice,
-    render_frame: impl Fn(Run, Frame, &mut Counts) -> io::Result<Run>,
-) -> io::Result<Outcome>
+fn render(rt: &impl Print, way: Way, frames: &[u8], opened: Voice) -> io::Result<Outcome>
     requires { (opened.configuration.nmcp ≤ 64) × (opened.configuration.nlpf ≤ 64) }
 {
     let mut spectrum = [0.0; 64];
     let mut lpf = [0.0; 64];
     let mut counts = Counts::new();
     let run = render_frames(
+        rt,
+        way,
         frames,
         Run::new(opened),
         &mut spectrum[..opened.configuration.nmcp],
         &mut lpf[..opened.configuration.nlpf],
         &mut counts,
-        render_frame,
     )?;
+    let name = way.name();
     let outcome = run.outcome();
     println!(rt; "{name}: {outcome}")?;
     counts.print(rt, name)?;
@@ -72,18 +99,15 @@ fn render(
 fn compare(rt: &impl Print, frames: &[u8], opened: Voice) -> io::Result<()>
     requires { (opened.configuration.nmcp ≤ 64) × (opened.configuration.nlpf ≤ 64) }
 {
-    let uncut = render(rt, "uncut", frames, opened, |run, frame, counts| {
-        Ok(calls::whole_frame(run, frame, counts))
-    })?;
-    let cut = render(rt, "cut", frames, opened, |run, frame, counts| {
-        cut::cut_frame(rt, run, frame, counts)
-    })?;
+    let uncut = render(rt, Way::Uncut, frames, opened)?;
+    let cut = render(rt, Way::Cut, frames, opened)?;
     if uncut == cut {
         println!(rt; "both are the same")
     } else {
         println!(rt; "they differ")
     }
 }
+
 // The voice that a job opens, where it is as long as it says. The tests of nmcp and nlpf are for the arrays: open has accepted them.
 fn opened(text: &[u8]) -> Result<Voice, Fault>
     ensures { IfOk result (λ v. (221 ≤ length text.now) × (v.configuration.nmcp ≤ 64) × (v.configuration.nlpf ≤ 64)) }
