@@ -7,6 +7,7 @@ ghost use Rattle.std.specs.Prelude.{◌≡◌, ◌≤◌, length};
 use configuration::Configuration;
 use lanes::five::Five;
 use lanes::{Pair, five};
+use refusing::Frame;
 use std::io;
 
 // A log F0 that is fine.
@@ -127,7 +128,12 @@ fn open_with(rt: &impl Print, nmcp: usize) -> io::Result<()> {
 fn give_fresh(rt: &impl Print, c: Configuration, spectrum: &[f64]) -> io::Result<()> {
     let opened = voice::open(c);
     let fresh = opened.voice;
-    let answered = giving::give(fresh, LF0, spectrum, &[]);
+    let frame = Frame {
+        lf0: LF0,
+        spectrum,
+        lpf: &[],
+    };
+    let answered = giving::give(fresh, frame);
     print_number(rt, answered.number)
 }
 
