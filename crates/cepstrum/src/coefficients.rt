@@ -1,5 +1,6 @@
 // From coefficients b.
 // Room is in an array of the largest size: fixed memory.
+// How long the slices are is in clauses, since the type of a slice says no length.
 ghost use Rattle.std.specs.Prelude.{◌≡◌, ◌≤◌, length};
 ghost use Rattle.number.specs.F64.{−◌};
 ghost use Rattle.cepstrum.specs.Cepstrum.{b2mc_of, freqt_of, b2en_of};

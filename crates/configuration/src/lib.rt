@@ -30,7 +30,7 @@ const MOST_FPERIOD: usize = 4800;
 // Where log-F0's low and high may lie, on both sides of 0.
 const FURTHEST: f64 = 20.0;
 
-// In the order of the rest records' first twelve slots; `log` is the log gain.
+// In the order of the rest records' first twelve slots; `log` is the log gain. C takes it by this layout.
 #[repr(C)]
 #[derive(Clone, Copy, Default)]
 pub struct Configuration {

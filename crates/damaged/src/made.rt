@@ -10,7 +10,7 @@ const LF0: f64 = 5.0;
 
 const NODATA: f64 = -10000000000.0;
 
-// The usual configuration with these counts.
+// The usual configuration with these counts. Not shared: each program has numbers of its own.
 pub fn configuration(nmcp: usize, nlpf: usize, stage: u64, fperiod: usize) -> Configuration
     ensures { (result.nmcp ≡ nmcp) × (result.nlpf ≡ nlpf) }
 {

@@ -1,6 +1,7 @@
 // Damages the records of three voices in every place, and restores them into another voice. Either that is refused by 13, and the voice
 // returned is the one handed in; or it is done, and a save of the voice returned gives exactly the damaged records. It writes for each voice and
 // kind of damage how many were tried, refused and accepted, and how many broke this rule.
+// Arrays are of the largest size that a case may have, a part of them lent: no heap.
 #![tactic(auto)]
 
 ghost use Rattle.std.specs.Prelude.{◌≤◌};

@@ -34,7 +34,7 @@ impl Tally {
         }
     }
 
-    // One more.
+    // One more, by the number that C's struct has.
     fn with(self, number: u64, kept: bool) -> Self {
         Self {
             refused: self.refused.wrapping_add(u64::from(number != DONE)),

@@ -2,6 +2,7 @@
 // samples wanted; pitch, counter, increment and end; next, used and the 64 values of the queue; nlpf taps of the line; nlpf taps of
 // the filter. It writes the count of samples made and the samples; and then the same state after them, from the pitch to the line.
 // A case that is cut off, or whose nlpf or n is above 64, ends the program.
+// Arrays are of the largest size that a case may have, a part of them lent: no heap.
 #![tactic(auto)]
 
 ghost use Rattle.std.specs.Prelude.{◌≡◌, ◌+◌, ◌*◌, ◌≤◌, length};

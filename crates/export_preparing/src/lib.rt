@@ -1,5 +1,5 @@
 // What C and Rust reach of preparing a frame, under C names. Each function is the one that it calls, behind a test of its lengths.
-// C wants numbers: 0 done, 1 a length or a stage that is not taken, 9 outside.
+// C wants numbers and flags: 0 done, 1 a length or a stage that is not taken, 9 outside.
 #![tactic(auto)]
 
 ghost use Rattle.std.specs.Prelude.{◌≡◌, cond, ◌&&◌, length};

@@ -1,4 +1,5 @@
 // What C and Rust reach of sound files, under C names: the calls of `riff`, with the width as its bits.
+// C wants numbers: 0 done, 1 a width that is not taken, and those of `riff`.
 #![tactic(auto)]
 
 ghost use Rattle.std.specs.Prelude.{length, ◌*◌};

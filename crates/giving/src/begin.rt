@@ -1,5 +1,6 @@
 // The coefficients of a frame: where they start, where they go, and by what steps.
 // `first` is a flag of the voice, as C has it.
+// How long the slices are is in clauses, since the type of a slice says no length.
 ghost use Rattle.std.specs.Prelude.{◌≡◌, ◌≤◌, length};
 ghost use Rattle.elementary.specs.Outcome.{prepared_of};
 ghost use Rattle.prepare.specs.Preparing.{start_after, targets_after};

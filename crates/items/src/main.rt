@@ -47,7 +47,7 @@ fn print_float(rt: &impl Print, x: f64) -> io::Result<()> {
     print!(rt; " {bits:016x}")
 }
 
-// Writes each of the values on it.
+// Writes each of the values on it; words' own function writes a line for each.
 fn print_floats(rt: &impl Print, values: &[f64]) -> io::Result<()> {
     for x in values {
         print_float(rt, *x)?;

@@ -1,6 +1,7 @@
 // Line spectral pairs to linear prediction, by two chains of sections.
 // The parts of the chains are lent one by one: a struct of `&mut` would want a clause for each in every function that takes it. They lie in arrays of the largest
 // size: fixed memory. `odd` is that of the number of pairs, so no closure picks the way.
+// How long the slices are is in clauses, since the type of a slice says no length.
 #![tactic(auto)]
 
 ghost use Rattle.std.specs.Prelude.{◌≡◌, ◌+◌, ◌/◌, ◌≤◌, length, drop, replicate, OnOk, OnErr};

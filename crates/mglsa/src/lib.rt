@@ -10,7 +10,7 @@ ghost use Rattle.mglsa.specs.Mglsa.{passed, warp_at, warped, pushed, dff_of, sta
 use crate::pair::two_stages;
 
 // The filter's taps, at most eight rows, one after the other. With fewer than 64 coefficients the rows are shorter, and the rest is
-// not used.
+// not used: fixed memory, as C has it.
 #[repr(C)]
 #[derive(Clone, Copy)]
 pub struct MelGeneralizedLogSpectrumApproximation {

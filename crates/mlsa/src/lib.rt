@@ -13,7 +13,7 @@ use lanes::five::Five;
 pub mod layout;
 
 // The filter's taps: those of the first part with the answers of its rows, six rows of taps of the second part, one after the
-// other, with the answers of its rows. With fewer than 64 coefficients the rows are shorter, and the rest is not used.
+// other, with the answers of its rows. With fewer than 64 coefficients the rows are shorter, and the rest is not used: fixed memory, as C has it.
 #[repr(C)]
 #[derive(Clone, Copy)]
 pub struct MelLogSpectrumApproximation {

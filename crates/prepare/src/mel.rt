@@ -1,5 +1,6 @@
 // Stage 0: the spectrum is a mel-cepstrum.
 // Room is in an array of the largest size: fixed memory. `first` is a flag of the voice, as C has it.
+// How long the slices are is in clauses, since the type of a slice says no length.
 ghost use Rattle.std.specs.Prelude.{◌≡◌, cond, ◌≤◌, length};
 ghost use Rattle.elementary.specs.Outcome.{prepared_of};
 ghost use Rattle.cepstrum.specs.Cepstrum.{mc2b_of};

@@ -1,5 +1,6 @@
 // Stages 1 to 8: the spectrum is line spectral pairs.
 // Room is in arrays of the largest size: fixed memory. `first` is a flag of the voice, as C has it.
+// How long the slices are is in clauses, since the type of a slice says no length.
 ghost use Rattle.std.specs.Prelude.{◌≡◌, ◌≤◌, length, OnOk};
 ghost use Rattle.elementary.specs.Outcome.{inside, prepared_of};
 ghost use Rattle.prepare.specs.Preparing.{start_if, coefficients_of, targets_lsp, prepared_lsp, start_after, targets_after};

@@ -38,7 +38,7 @@ fn number_at(bytes: &[u8], at: usize) -> u64
     get_word(bytes, at).unwrap_or(0)
 }
 
-// Reads the values of as many records as there is room for, and tells whether their slots are 0, 1, 2 and so on.
+// Reads the values of as many records as there is room for, and tells whether their slots are 0, 1, 2 and so on. No Option: the values go into what is lent.
 pub fn decode(bytes: &[u8], values: &mut [u64]) -> bool
     requires { 16 * length values.old ≤ length bytes.now }
     ensures value { result ≡ in_order 0 (length values.old) bytes.now }

@@ -1,6 +1,7 @@
 // Writes what the calls answer where one refusal applies, and where two apply: a line each, of the call, the numbers that apply (0: none)
 // and the number answered. Of two numbers the first is the one that comes first in document 01's table. Lines with a name in place of the
 // numbers show a limit, or another way to a number. README.md says what each number stands for here.
+// Arrays are of the largest size that a case may have, a part of them lent: no heap.
 #![tactic(auto)]
 
 ghost use Rattle.std.specs.Prelude.{◌≡◌, ◌+◌, ◌≤◌, length};
@@ -147,7 +148,7 @@ fn samples(full: bool) -> u64
     if full { ALL_FRAMES } else { ONE_FRAME }
 }
 
-// A voice that was given one frame, or all that the meter has room for, and whose last sample is left or not; idle by its noise.
+// A voice that was given one frame, or all that the meter has room for, and whose last sample is left or not; idle by its noise. Three flags and no enum: any two may meet.
 fn voice_where(idle: bool, left: bool, full: bool) -> Voice {
     let counted = samples(full);
     let opened = voice::open(configuration());

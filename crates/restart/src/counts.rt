@@ -13,7 +13,7 @@ impl Counts {
         Self { times: [0; 15] }
     }
 
-    // Counts a refusal.
+    // Counts a refusal, by the number that C's struct has.
     pub fn count(&mut self, number: u64) {
         if number == DONE {
             return;

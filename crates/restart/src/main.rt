@@ -2,6 +2,7 @@
 // writes what each came to, where the restarts were, how often each number was a refusal's, and whether both are the same. A job is a
 // list of words, one a line, floats by their bits: the twelve slots of the configuration; the count of frames; of each frame lf0, the nmcp
 // entries of the spectrum and the nlpf taps. A job that is past a limit, or not as long as it says, ends the program with a line that says so.
+// Arrays are of the largest size that a case may have, a part of them lent: no heap.
 #![tactic(auto)]
 
 ghost use Rattle.std.specs.Prelude.{◌≤◌, IfOk, length};

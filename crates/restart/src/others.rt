@@ -14,7 +14,7 @@ pub enum Kind {
     Busy,
 }
 
-// A configuration of that stage; the other slots are unlike those of a usual job.
+// A configuration of that stage; the other slots are unlike those of a usual job, and of no other program.
 fn configuration(nmcp: usize, nlpf: usize, stage: u64) -> Configuration {
     Configuration {
         nmcp,

@@ -36,7 +36,7 @@ pub fn width_of(bits: u64) -> Option<Width>
     }
 }
 
-// Nothing written, by any number.
+// Nothing written, by any number. C's number, and no Refusal: it is public, and stays.
 pub fn refused_by(number: u64) -> Written
     ensures { result ≡ refused number }
 {

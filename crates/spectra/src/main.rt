@@ -2,6 +2,7 @@
 // alpha, beta; nmcp entries of the spectrum; nmcp coefficients that the voice has. It writes the number (0, or 9 where preparing is
 // outside), the start coefficients after it and the targets after it, which are zeros before. A case that is cut off, or whose nmcp or
 // stage is past its limit, ends the program.
+// Arrays are of the largest size that a case may have, a part of them lent: no heap.
 #![tactic(auto)]
 
 ghost use Rattle.std.specs.Prelude.{◌≡◌, ◌+◌, ◌*◌, ◌≤◌, length};

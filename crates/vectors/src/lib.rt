@@ -1,4 +1,5 @@
 // Slices of floats, whole and from an index on.
+// `multiply_from` and `divide_from` differ in an operation, for which a closure is no plainer; `copy` is a name for std's method, whose clause and edits stand here.
 #![tactic(auto)]
 
 ghost use Rattle.std.specs.Prelude.{◌≡◌, length};

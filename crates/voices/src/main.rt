@@ -5,6 +5,7 @@
 // writes the number of the open; of each call of the kinds 0 to 2 the number, and but of a give the samples made and the whole buffer,
 // which holds ones before; at the end of a case the meter, the samples left, the first flag, the pulse and the coefficients. A case that
 // is cut off, or past a limit, ends the program.
+// Arrays are of the largest size that a case may have, a part of them lent: no heap.
 #![tactic(auto)]
 
 ghost use Rattle.std.specs.Prelude.{◌+◌, ◌*◌, ◌<◌, ◌≤◌, IfOk, IfSome, length};
