@@ -1,5 +1,6 @@
 // Text of one word a line: sixteen hexadecimal digits, the bits of a number, and a line end.
 // The programs read 65,536 bytes at most and nothing past them, so their buffers are of that size.
+// Each has its own loop over its cases: a closure for a case would say the same facts on the place again in its clauses, and is no plainer.
 #![tactic(auto)]
 
 ghost use Rattle.std.specs.Prelude.{◌+◌, ◌*◌, ◌≤◌, ◌<◌, IfOk, length};
