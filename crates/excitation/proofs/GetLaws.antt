@@ -71,7 +71,10 @@ module _ (pulse : Pulse) where
   unfolding pulse_after
   after_unvoiced v = rw v refl
 
-  -- the line that `mix` leaves, by what its steps answer
-  pub mix_voiced : (noise : Float) (lpf line noisy both : List Float) (p : Pulsed) → voiced pulse.pitch ≡ true → noisy ≡ with_noise noise line → p ≡ pulse_of pulse → both ≡ with_pulse (p.sample ⊖ noise) lpf noisy
-      → both ≡ mixed_line pulse noise lpf line
-  mix_voiced noise lpf line noisy both p v ew ep eb = eb ∙ rw (ep, ew) (sym (line_voiced noise lpf line v))
+  -- what `mix` makes of its steps, by what each of them answers
+  pub mix_voiced : (noise : Float) (lpf line noisy both : List Float) (p : Pulsed)
+      → voiced pulse.pitch ≡ true → noisy ≡ with_noise noise line → p ≡ pulse_of pulse → both ≡ with_pulse (p.sample ⊖ noise) lpf noisy
+      → (◌≡◌ {A = Pulsed} (record { sample = both ‼ 0; pulse = p.pulse }) (record { sample = mixed_line pulse noise lpf line ‼ 0; pulse = pulse_after pulse })) × (both ≡ mixed_line pulse noise lpf line)
+  mix_voiced noise lpf line noisy both p v ew ep eb =
+      let all : both ≡ mixed_line pulse noise lpf line = eb ∙ rw (ep, ew) (sym (line_voiced noise lpf line v)) in
+      (rw (all, ep, after_voiced v) refl, all)

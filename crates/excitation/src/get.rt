@@ -1,4 +1,6 @@
 // One sample of the excitation.
+// The pulse train and the noise go as two `&mut`, and not in one struct: the voice and the stretch under its C name hold them apart.
+// `odd` is a bool: it is handed on to `delay::add_pulse`, and which way it is goes by the sample.
 ghost use Rattle.std.specs.Prelude.{◌≡◌, ◌<◌, List, length, Float, None};
 ghost use Rattle.number.specs.F64.{◌‼◌};
 ghost use Rattle.noise.specs.Draw.{tries};

@@ -1,6 +1,8 @@
 // The delay line in a window that slides along the samples: sample i works on the taps from i on, and nothing is shifted.
 // Each function answers how many samples were made.
 // The window is an array of the largest size: fixed memory.
+// The pulse train and the noise go as two `&mut`, and not in one struct: the voice and the stretch under its C name hold them apart.
+// Whether a place is odd goes to `get_mixed` as a bool, on to `delay::add_pulse`: which way it is goes by the sample.
 ghost use Rattle.std.specs.Prelude.{◌≡◌, ◌+◌, ◌<◌, ◌≤◌, length};
 ghost use Rattle.excitation.specs.Excitation.{state};
 ghost use Rattle.excitation.specs.Window.{line_at, ZeroFrom, Stretches};
@@ -66,7 +68,7 @@ fn piece(
     in_window(pulse, random, &mut window, line, lpf, out)
 }
 
-// A stretch, piece by piece. A while: a piece that ends early ends the stretch, with the samples that it made.
+// A stretch, piece by piece. A piece that ends early ends the stretch, with the samples that it made.
 pub(crate) fn by_pieces(
     pulse: &mut Pulse,
     random: &mut Random,
@@ -78,13 +80,12 @@ pub(crate) fn by_pieces(
     ensures { Stretches lpf.now (state pulse.old random.old line.old) (state pulse.new random.new line.new) result out.old out.new }
 {
     let n = out.len();
-    let mut i = 0;
-    while i < n {
+    for i in (0..n).step_by(256) {
         let end = n.min(i + 256);
-        i += piece(pulse, random, line, lpf, &mut out[i..end]);
-        if i < end {
-            break;
+        let made = piece(pulse, random, line, lpf, &mut out[i..end]);
+        if made < end - i {
+            return i + made;
         }
     }
-    i
+    n
 }

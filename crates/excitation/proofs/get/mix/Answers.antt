@@ -12,7 +12,7 @@ use Rattle.excitation.proofs.get.mix.Goals.{Joined-pulse, then-pulse, else-pulse
 made : (c : Joined-pulse) → c.if-pulse.line ≡ mixed_line c.args.pulse.now c.args.noise c.args.lpf.now c.args.line.now
 made c = elim c.if-pulse.branch [
   | then-pulse w ↦
-      w.line-is ∙ mix_voiced c.args.pulse.now c.args.noise c.args.lpf.now c.args.line.now c.add_noise.new.line w.add_pulse.new.line w.next-pulsed.result w.if-pulse.true c.add_noise.ensures w.next-pulsed.ensures w.add_pulse.ensures
+      w.line-is ∙ (mix_voiced c.args.pulse.now c.args.noise c.args.lpf.now c.args.line.now c.add_noise.new.line w.add_pulse.new.line w.next-pulsed.result w.if-pulse.true c.add_noise.ensures w.next-pulsed.ensures w.add_pulse.ensures).1
   | else-pulse w ↦ w.line-is ∙ c.add_noise.ensures ∙ sym (line_unvoiced c.args.pulse.now c.args.noise c.args.lpf.now c.args.line.now w.if-pulse.false)
 ]
 
