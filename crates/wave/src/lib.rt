@@ -79,20 +79,20 @@ fn two_steps(w: Wave, alpha: f64, v: f64, u: f64) -> (f64, Wave)
 }
 
 // The wave from the third entry on, two entries a turn, and then the last where one is left.
-// A while: `as_chunks_mut` says nothing of what the slice ends as, and a `step_by` was tried: it leaves by two ways, and no longer shows what is left.
+// By the number of pairs: `as_chunks_mut` says nothing of what the slice ends as.
 fn sweep_in(g: &mut [f64], alpha: f64, mut w: Wave)
     requires { 2 ≤ length g.old }
     ensures { g.new ≡ take 2 g.old ++ swept alpha w.input (made_by w) (drop 2 g.old) }
 {
-    let mut j = 2;
-    while g.len() - j >= 2 {
+    for t in 0..(g.len() - 2) / 2 {
+        let j = 2 + 2 * t;
         let (here, next) = two_steps(w, alpha, g[j], g[j + 1]);
         g[j] = here;
         g[j + 1] = next.eighth;
         w = next;
-        j += 2;
     }
-    if j < g.len() {
+    if g.len() % 2 == 1 {
+        let j = g.len() - 1;
         let last = step(w, alpha, g[j]);
         g[j] = last.eighth;
     }
