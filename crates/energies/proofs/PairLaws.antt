@@ -163,7 +163,7 @@ sum_stays f k zero d h = refl
 sum_stays f k (suc n) d h = ap (sum_from f (suc k) n) (h k (omega arith) (omega arith)) ∙ sum_stays f (suc k) n d (λ i a b. h i (omega arith) (omega arith))
 
 -- every product of later entries is lost in d
-module _ (w r : List Float) (t : List ℕ) (p n k top : ℕ) (d : Float) (tops : Tops 1152 t w) (high : Highest p n r) (short : n < 576) (some : 1 ≤ k) (here : k ≤ n) (is : top ≡ get_or t (2 * k) 0)
+module _ (w r : List Float) (t : List ℕ) (p n k top : ℕ) (d : Float) (tops : Tops 1152 t w) (high : Highest p n r) (short : n < 576) (some : 1 ≤ k) (is : top ≡ get_or t (2 * k) 0)
     (lost : (x y : Float) → UpTo top x → UpTo p y → d ⊕ x ⊗ y ≡ d) where
   pub even_stays : sum_from (weighed_term (evens w) (evens r) n) k (n + 1 - k) d ≡ d
   even_stays =

@@ -15,7 +15,6 @@ use cepstrum::coefficients::b2c;
 use lost::{later, unmoved};
 
 // Of both, the sum d with the terms w[k] * r[n - k] added, k from `from` to below `to`. Two terms a turn, so that the two sums stay side by side in one register.
-// A while: its k shows after it whether a term is left, which no `step_by` hands on.
 fn terms(
     w: &[f64; 1152],
     r: &[f64; 1152],
@@ -29,15 +28,15 @@ fn terms(
 {
     let last = 2 * n;
     let (mut first, mut second) = d;
-    let mut k = from;
-    while k + 1 < to {
+    for t in 0..(to - from) / 2 {
+        let k = from + 2 * t;
         let i = 2 * k;
         let j = last - i;
         first = first + w[i] * r[j] + w[i + 2] * r[j - 2];
         second = second + w[i + 1] * r[j + 1] + w[i + 3] * r[j - 1];
-        k += 2;
     }
-    if k < to {
+    if (to - from) % 2 == 1 {
+        let k = to - 1;
         let i = 2 * k;
         let j = last - i;
         first += w[i] * r[j];
@@ -60,24 +59,24 @@ fn tops(w: &[f64; 1152]) -> [u64; 1152]
 }
 
 // Of both, the sum of w[k] * r[n - k] for k from 1 to n. After every 32 terms it is seen whether any later one can still change either sum: those from
-// k on have a weight of tops[2 * k] at most, and a response of `high`.
-// A while: the terms after it begin at its k, which no `step_by` hands on.
+// `next` on have a weight of tops[2 * next] at most, and a response of `high`.
 fn sums(w: &[f64; 1152], tops: &[u64; 1152], r: &[f64; 1152], high: u64, n: usize) -> (f64, f64)
     requires n_bound { n < 576 }
     requires tops { Tops 1152 tops.now w.now × Highest high n r.now }
     ensures { (result.0 ≡ sum_from (weighed_term (evens w.now) (evens r.now) n) 1 n 0f) × (result.1 ≡ sum_from (weighed_term (odds w.now) (odds r.now) n) 1 n 0f) }
 {
     let mut d = (0.0, 0.0);
-    let mut k = 1;
-    while k + 32 <= n {
-        d = terms(w, r, n, k, k + 32, d);
-        k += 32;
-        let top = tops[2 * k];
+    let blocks = n / 32;
+    for t in 0..blocks {
+        let k = 1 + 32 * t;
+        let next = k + 32;
+        d = terms(w, r, n, k, next, d);
+        let top = tops[2 * next];
         if unmoved(d.0, top, high) && unmoved(d.1, top, high) {
             return d;
         }
     }
-    terms(w, r, n, k, n + 1, d)
+    terms(w, r, n, 1 + 32 * blocks, n + 1, d)
 }
 
 // The two lists in one, entry i of both at 2 * i and 2 * i + 1.
