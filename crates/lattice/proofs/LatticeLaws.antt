@@ -49,13 +49,6 @@ odd_at l i h =
 abbrev pub Weighed : List Float → List Float → ℕ → Type 0
 Weighed l p i = weights_of l ≡ (weights_of (drop i l) then λ ps. inside (take i p ++ ps))
 
-pub weighed_none : (l p : List Float) → Weighed l p 0
-weighed_none l p = go (weights_of l)
-  where
-    go : (d : Outcome (List Float)) → d ≡ (d then λ ps. inside ps)
-    go outside = refl
-    go (inside ps) = refl
-
 module _ (l p : List Float) (i : ℕ) (long : i < length l) (w : Weighed l p i) where
   next : (r : Result Float Outside) → cos_of (l ‼ i) ≡ r → weights_of (drop i l) ≡ (of_answer r then λ y. weights_of (drop (i + 1) l) then λ ps. inside (− 2f ⊗ y ∷ ps))
   unfolding weights_of
@@ -169,11 +162,6 @@ shifted_turn a0 a1 a1₀ a2 a2₀ i h g e f =
     here l =
         let z : i + 0 ≡ i = omega arith in
         rw z at (sym (get_or-drop i l 0 nan))
-
-pub length_inputs : (a0 : Float) (p a1 a2 : List Float) → length (inputs a0 p a1 a2) ≡ length p
-unfolding inputs
-length_inputs a0 [] a1 a2 = refl
-length_inputs a0 (p ∷ ps) a1 a2 = ap suc (length_inputs (section a0 p (a1 ‼ 0) (a2 ‼ 0)) ps (drop 1 a1) (drop 1 a2))
 
 -- ---- the turns of both chains
 

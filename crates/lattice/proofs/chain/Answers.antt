@@ -1,14 +1,11 @@
 -- `chain` meets its contract: what the sections that are left make is what all of them make. Assumes nothing.
-use mathlib.Core.Path.{refl, sym, ◌∙◌}
+use mathlib.Core.Path.{sym, ◌∙◌}
 use native.Mathlib.Omega.{arith}
 use lib.ListN.{take, length-set}
 use lib.Seq.{take_all}
 use Rattle.number.proofs.Lists.{over_end}
 use Rattle.lattice.proofs.LatticeLaws.{inputs_turn, output_turn, inputs_done, output_done, shifted_turn}
 use Rattle.lattice.proofs.chain.Goals as goal
-
-pub loop-i-init : goal.loop-i-init
-loop-i-init c = (omega arith, refl, refl, refl, refl, refl, refl)
 
 pub loop-i-preserved : goal.loop-i-preserved
 loop-i-preserved c =

@@ -1,16 +1,10 @@
 -- `predict` meets its contract: what is made, with what the turns that are left make, is what all of them make. Assumes nothing.
-use mathlib.Core.Path.{◌≡◌, refl, sym, ◌∙◌}
+use mathlib.Core.Path.{sym, ◌∙◌}
 use Prim.Native.Nat.{◌-◌}
 use native.Mathlib.Omega.{arith}
 use lib.ListN.{length, length-set}
 use Rattle.lattice.proofs.LatticeLaws.{predict_turn, predict_done}
 use Rattle.lattice.proofs.predict.Goals as goal
-
-pub loop-k-init : goal.loop-k-init
-loop-k-init c =
-    let n = length c.args.lpc.now in
-    let e : n - 0 ≡ n = omega arith in
-    (omega arith, refl, omega arith, refl, refl, refl, refl, rw e refl)
 
 pub loop-k-preserved : goal.loop-k-preserved
 loop-k-preserved c =

@@ -1,16 +1,12 @@
 -- `weights` meets its contract: the entries that are left decide. Assumes nothing.
-use mathlib.Core.Path.{◌≡◌, refl, ◌∙◌}
+use mathlib.Core.Path.{◌≡◌, ◌∙◌}
 use Prim.Native.Nat.{◌+◌, ◌-◌, ◌/◌}
 use native.Mathlib.Omega.{arith}
 use Rattle.std.proofs.lemmas.Result.{err_from_is_err_and}
 use lib.ListN.{length, drop, length-set, length-drop}
 use Rattle.lattice.specs.Lattice.{every_other}
-use Rattle.lattice.proofs.LatticeLaws.{Weighed, length_every_other, weighed_none, weighed_all, last_outside, last_more, turn_outside, turn_more}
+use Rattle.lattice.proofs.LatticeLaws.{Weighed, length_every_other, weighed_all, last_outside, last_more, turn_outside, turn_more}
 use Rattle.lattice.proofs.weights.Goals as goal
-
-pub loop-i-init : goal.loop-i-init
-loop-i-init c =
-    (omega arith, refl, refl, weighed_none (every_other c.args.lsp.now) c.args.p.now, weighed_none (every_other (drop 1 c.args.lsp.now)) c.args.q.now)
 
 pub loop-i-preserved : goal.loop-i-preserved
 loop-i-preserved c =
