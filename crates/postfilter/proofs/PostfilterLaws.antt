@@ -3,13 +3,10 @@ use mathlib.Core.Path.{◌≡◌, refl}
 use mathlib.Core.List.{List}
 use mathlib.Core.Bool.{Bool, true, false}
 use Prim.Native.Nat.{ℕ, ◌+◌, ◌-◌, ◌<◌}
-use borrow.Author.Tests.{ltb-true}
-use lib.Dec.{ltb}
-use lib.Ieee.{Float, lt, ne}
+use lib.Ieee.{Float, ne}
 use lib.ListN.{length, set}
-use Rattle.number.specs.F64.{◌⊕◌, ◌⊗◌, ◌⊘◌, ◌‼◌, 0f, ½f, 2f}
+use Rattle.number.specs.F64.{◌⊕◌, ◌⊗◌, ◌⊘◌, ◌‼◌, ½f, 2f}
 use Rattle.number.specs.Lists.{over}
-use Rattle.number.proofs.Floats.{both_first, both_second}
 use Rattle.number.proofs.Lists.{over_more}
 use Rattle.std.specs.Prelude.{Ok, Err}
 use Rattle.elementary.specs.Outcome.{outside, inside}
@@ -20,15 +17,7 @@ use Rattle.vectors.proofs.VectorLaws.{length_grown, grown_more}
 use Rattle.cepstrum.specs.Cepstrum.{mc2b_of, b2mc_of, b2en_of}
 use Rattle.lsp.specs.Lsp.{lsp2en_of}
 use Rattle.postfilter.specs.Mel.{acts, sharpened_of, filtered_mcp, postfilter_mcp_of}
-use Rattle.postfilter.specs.Pairs.{moves_of, spread_entry, spread_of, levelled, filtered_lsp, postfilter_lsp_of}
-
--- where they act there are three entries or more
-pub acts_long : (beta : Float) (n : ℕ) → acts beta n ≡ true → 2 < n
-acts_long beta n e = ltb-true 2 n (both_second (lt 0f beta) (ltb 2 n) e)
-
--- an entry that moves has neighbours
-pub moves_between : (i n : ℕ) → moves_of i n ≡ true → (1 < i) × (i < n - 1)
-moves_between i n e = (ltb-true 1 i (both_first (ltb 1 i) (ltb i (n - 1)) e), ltb-true i (n - 1) (both_second (ltb 1 i) (ltb i (n - 1)) e))
+use Rattle.postfilter.specs.Pairs.{spread_entry, spread_of, levelled, filtered_lsp, postfilter_lsp_of}
 
 -- ---- of a mel-cepstrum
 

@@ -1,19 +1,12 @@
 -- `postfilter_mcp` meets its contract. Assumes nothing.
 use mathlib.Core.Path.{refl, sym, ◌∙◌}
-use native.Mathlib.Omega.{arith}
-use lib.ListN.{length}
-use Rattle.postfilter.proofs.PostfilterLaws.{acts_long, mcp_acts, mcp_rests}
+use Rattle.postfilter.proofs.PostfilterLaws.{mcp_acts, mcp_rests}
 use Rattle.postfilter.proofs.mel.postfilter_mcp.Goals as goal
 
 pub returns-then-not-acting : goal.returns-then-not-acting
 returns-then-not-acting c =
     let d = mcp_rests c.args.alpha c.args.beta c.args.c.now (sym c.acting.ensures ∙ c.if-not-acting.true) in
     record { value = rw d refl; c_after = rw d refl }
-
-pub filter_in-requires : goal.filter_in-requires
-filter_in-requires c =
-    let long = acts_long c.args.beta (length c.args.c.now) (sym c.acting.ensures ∙ c.if-not-acting.false) in
-    (long, omega arith, omega (arith, long), omega (arith, long))
 
 pub returns : goal.returns
 returns c =

@@ -1,8 +1,6 @@
 -- `filter_in` meets its contract: each answer decides. Assumes nothing.
-use mathlib.Core.Path.{◌≡◌, refl}
-use native.Mathlib.Omega.{arith}
+use mathlib.Core.Path.{refl}
 use Rattle.std.proofs.lemmas.Result.{err_from_is_err_and}
-use lib.ListN.{length, length-set}
 use Rattle.elementary.proofs.OutcomeLaws.{answer_outside, answer_inside}
 use Rattle.number.specs.F64.{◌‼◌}
 use Rattle.lsp.specs.Lsp.{lsp2en_of}
@@ -24,11 +22,6 @@ returns-in_err-en2 c =
     let d = lsp_outside_after c.args.beta c.args.log c.args.s c.args.lsp.now _ c.spread.new.buf one c.spread.ensures out in
     let p = err_from_is_err_and c.from_residual-in_err-en2.result c.from_residual-in_err-en2.ensures.1 in
     record { value = rw (p.1, d) refl; lsp_after = rw d refl }
-
-pub copy-requires : goal.copy-requires
-copy-requires c =
-    let n : length c.spread.new.buf ≡ length c.args.buf.now = c.spread.auto.buf in
-    simp length-set (omega (arith, n))
 
 pub returns : goal.returns
 returns c =

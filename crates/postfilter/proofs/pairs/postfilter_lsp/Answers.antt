@@ -1,19 +1,12 @@
 -- `postfilter_lsp` meets its contract. Assumes nothing.
 use mathlib.Core.Path.{refl, sym, ◌∙◌}
-use native.Mathlib.Omega.{arith}
-use lib.ListN.{length}
-use Rattle.postfilter.proofs.PostfilterLaws.{acts_long, lsp_acts, lsp_rests}
+use Rattle.postfilter.proofs.PostfilterLaws.{lsp_acts, lsp_rests}
 use Rattle.postfilter.proofs.pairs.postfilter_lsp.Goals as goal
 
 pub returns-then-not-acting : goal.returns-then-not-acting
 returns-then-not-acting c =
     let d = lsp_rests c.args.beta c.args.log c.args.s c.args.lsp.now (sym c.acting.ensures ∙ c.if-not-acting.true) in
     record { value = rw d refl; lsp_after = rw d refl }
-
-pub filter_in-requires : goal.filter_in-requires
-filter_in-requires c =
-    let long = acts_long c.args.beta (length c.args.lsp.now) (sym c.acting.ensures ∙ c.if-not-acting.false) in
-    (long, omega arith, omega (arith, long), omega arith)
 
 pub returns : goal.returns
 returns c =
