@@ -6,15 +6,11 @@ use lib.Ieee.{Float}
 use Rattle.number.specs.F64.{0f}
 use Rattle.vectors.specs.Vectors.{grown}
 use Rattle.cepstrum.proofs.CepstrumLaws.{made_more, made_all}
-use Rattle.number.proofs.Floats.{small_float}
 use Rattle.cepstrum.proofs.cepstrum.c2ir.Goals as goal
 
 pub loop-n-init : goal.loop-n-init
 unfolding grown
 loop-n-init c = (omega arith, omega arith, (refl, ap (λ (y : Float). set (replicate 576 0f) 0 y) c.exp.ensures.value))
-
-pub int_to_float-ir : goal.int_to_float-ir
-int_to_float-ir c = small_float _ (omega arith)
 
 pub loop-n-preserved : goal.loop-n-preserved
 loop-n-preserved c =

@@ -1,15 +1,10 @@
 -- `ir_sum` meets its contract: the terms that are left give what all of them give. Assumes nothing.
-use mathlib.Core.Path.{◌≡◌, refl, sym, ◌∙◌}
+use mathlib.Core.Path.{sym, ◌∙◌}
 use Prim.Native.Nat.{◌+◌, ◌-◌}
 use native.Mathlib.Omega.{arith}
 use Rattle.vectors.proofs.VectorLaws.{sum_turn, sum_done}
 use Rattle.cepstrum.specs.Weights.{weighed_term}
 use Rattle.cepstrum.proofs.cepstrum.ir_sum.Goals as goal
-
-pub loop-k-init : goal.loop-k-init
-loop-k-init c =
-    let e : c.args.n + 1 - 1 ≡ c.args.n = omega arith in
-    (omega arith, rw e refl)
 
 pub loop-k-preserved : goal.loop-k-preserved
 loop-k-preserved c =

@@ -1,10 +1,8 @@
 -- `weights` meets its contract: the first k weights are made. Assumes nothing.
-use mathlib.Core.Path.{◌≡◌, refl, ◌∙◌}
+use mathlib.Core.Path.{refl, ◌∙◌}
 use native.Mathlib.Omega.{arith}
 use lib.ListN.{length-set, replicate}
 use Rattle.number.specs.F64.{0f}
-use Rattle.number.proofs.Lists.{over_end}
-use Rattle.number.proofs.Floats.{small_float}
 use Rattle.vectors.specs.Vectors.{grown}
 use Rattle.cepstrum.specs.Weights.{weights_of}
 use Rattle.cepstrum.proofs.CepstrumLaws.{weights_turn}
@@ -14,14 +12,6 @@ pub loop-k-init : goal.loop-k-init
 unfolding weights_of grown
 loop-k-init c = (omega arith, refl, refl)
 
-pub int_to_float-w : goal.int_to_float-w
-int_to_float-w c = small_float _ (omega arith)
-
 pub loop-k-preserved : goal.loop-k-preserved
 loop-k-preserved c =
     (omega arith, length-set c.loop-k.w c.loop-k.k _ ∙ c.loop-k.invariant.1, weights_turn c.args.c.now c.loop-k.w (replicate 576 0f) c.loop-k.k (omega arith) c.loop-k.invariant.2)
-
-pub returns : goal.returns
-returns c =
-    let e : c.loop-k.k ≡ 576 = omega arith in
-    c.loop-k.invariant.2 ∙ over_end (weights_of c.loop-k.k c.args.c.now) (replicate 576 0f) c.loop-k.k (omega arith) ∙ rw e refl

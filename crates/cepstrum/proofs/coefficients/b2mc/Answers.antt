@@ -14,8 +14,3 @@ pub loop-i-preserved : goal.loop-i-preserved
 loop-i-preserved c =
     let e : c.loop-i.i - 1 + 1 ≡ c.loop-i.i = omega arith in
     (omega arith, simp length-set (omega arith), b2mc_turn _ c.args.b.now c.loop-i.c (c.loop-i.i - 1) (omega arith) (omega arith) (rw e c.loop-i.invariant.2))
-
-pub returns : goal.returns
-returns c =
-    let z : c.loop-i.i ≡ 0 = omega arith in
-    rw z at c.loop-i.invariant.2
