@@ -23,9 +23,6 @@ pub record TopsFrom (k top : ℕ) (t : List ℕ) (w : List Float) : Type 0 where
   pub here : (j : ℕ) → k ≤ j → j < 1152 → UpTo top (w ‼ j)
   pub there : (i j : ℕ) → k ≤ i → i ≤ j → j < 1152 → UpTo (get_or t i 0) (w ‼ j)
 
-pub tops_none : (top : ℕ) (t : List ℕ) (w : List Float) → TopsFrom 1152 top t w
-tops_none top t w = record { here = λ j a b. absurd (omega arith); there = λ i j a b c. absurd (omega arith) }
-
 pub tops_all : (top : ℕ) (t : List ℕ) (w : List Float) → TopsFrom 0 top t w → Tops 1152 t w
 tops_all top t w h = λ i j a b. h.there i j (omega arith) a b
 

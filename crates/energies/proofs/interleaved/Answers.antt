@@ -5,7 +5,7 @@ use native.Mathlib.Omega.{arith}
 use lib.Ieee.{nan}
 use lib.ListN.{set, replicate, length-set}
 use Rattle.number.specs.F64.{0f}
-use Rattle.energies.proofs.PairLaws.{paired_zeros, paired_more, all_taken}
+use Rattle.energies.proofs.PairLaws.{paired_zeros, paired_more}
 use Rattle.energies.proofs.interleaved.Goals as goal
 
 pub loop-i-init : goal.loop-i-init
@@ -15,7 +15,3 @@ pub loop-i-preserved : goal.loop-i-preserved
 loop-i-preserved c =
     let more = paired_more c.loop-i.both c.args.one.now c.args.other.now (replicate 576 0f) c.loop-i.i nan (omega arith) (omega arith) (omega arith) c.loop-i.invariant.2 in
     (omega arith, length-set (set c.loop-i.both (2 * c.loop-i.i) _) (2 * c.loop-i.i + 1) _ ∙ length-set c.loop-i.both (2 * c.loop-i.i) _ ∙ c.loop-i.invariant.1, more)
-
-pub returns : goal.returns
-returns c =
-    (c.loop-i.invariant.2.0 ∙ all_taken c.args.one.now c.loop-i.i (omega arith) (omega arith), c.loop-i.invariant.2.1 ∙ all_taken c.args.other.now c.loop-i.i (omega arith) (omega arith))

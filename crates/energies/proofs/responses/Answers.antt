@@ -6,7 +6,6 @@ use native.Mathlib.Omega.{arith}
 use lib.Ieee.{Float}
 use lib.ListN.{set, replicate, length-set}
 use Rattle.number.specs.F64.{0f}
-use Rattle.number.proofs.Floats.{small_float}
 use Rattle.vectors.specs.Vectors.{sum_from, grown, energy_of}
 use Rattle.cepstrum.specs.Weights.{weighed_term}
 use Rattle.cepstrum.proofs.CepstrumLaws.{made_more, made_all}
@@ -23,16 +22,6 @@ loop-n-init c =
     let second = ap (λ (y : Float). set zeros 0 y) c.exp-gain2.ensures.value in
     let high = highest_more 0 c.later.result c.later-high.result 0 (replicate 1152 0f) _ _ (omega arith) c.later.ensures.0 c.later.ensures.1 c.later-high.ensures.0 c.later-high.ensures.1 (λ j h. absurd (omega arith)) in
     (omega arith, omega arith, refl, (refl, first), (refl, second), paired_set (replicate 1152 0f) zeros zeros 0 _ _ paired_zeros, high)
-
-pub sums-d-requires : goal.sums-d-requires
-sums-d-requires c =
-    record { n_bound = omega arith; tops = (c.tops-tops.ensures, c.loop-n.invariant.6) }
-
-pub int_to_float-next1 : goal.int_to_float-next1
-int_to_float-next1 c = small_float _ (omega arith)
-
-pub int_to_float-next2 : goal.int_to_float-next2
-int_to_float-next2 c = small_float _ (omega arith)
 
 pub loop-n-preserved : goal.loop-n-preserved
 loop-n-preserved c =

@@ -1,13 +1,10 @@
 -- `tops` meets its contract: from `left` on every place bounds what comes after it. Assumes nothing.
-use mathlib.Core.Path.{◌≡◌, refl}
+use mathlib.Core.Path.{◌≡◌}
 use Prim.Native.Nat.{◌+◌, ◌-◌}
 use native.Mathlib.Omega.{arith}
 use lib.ListN.{length-set}
-use Rattle.energies.proofs.TopLaws.{TopsFrom, tops_none, tops_all, tops_more}
+use Rattle.energies.proofs.TopLaws.{TopsFrom, tops_all, tops_more}
 use Rattle.energies.proofs.tops.Goals as goal
-
-pub loop-i-init : goal.loop-i-init
-loop-i-init c = (omega arith, refl, tops_none _ _ _)
 
 pub loop-i-preserved : goal.loop-i-preserved
 loop-i-preserved c =
