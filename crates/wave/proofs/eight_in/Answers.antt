@@ -1,13 +1,9 @@
 -- `eight_in` meets its contract: the first two entries, and what `sweep_in` makes of the rest. Assumes nothing.
 use mathlib.Core.Path.{◌∙◌}
 use native.Mathlib.Omega.{arith}
-use lib.ListN.{length-set}
 use Rattle.wave.specs.Wave.{made_by}
 use Rattle.wave.proofs.WaveLaws.{wave_stored}
 use Rattle.wave.proofs.eight_in.Goals as goal
-
-pub shape_of-g : goal.shape_of-g
-shape_of-g c = simp length-set at c.sweep_in.auto.g
 
 pub returns : goal.returns
 returns c =
