@@ -1,7 +1,6 @@
 -- `prepare_in` meets its contract: both answers decide. Assumes nothing.
 use Rattle.std.proofs.lemmas.Result.{err_from_is_err_and}
-use mathlib.Core.Path.{◌≡◌, refl, sym, ◌∙◌}
-use lib.ListN.{length}
+use mathlib.Core.Path.{refl, sym}
 use Rattle.elementary.proofs.OutcomeLaws.{is_outside}
 use Rattle.prepare.specs.Preparing.{start_if, coefficients_of, targets_lsp}
 use Rattle.prepare.proofs.PrepareLaws.{lsp_outside_start, lsp_outside_targets, lsp_inside}
@@ -21,17 +20,6 @@ returns-in_err-targets_in c =
     let d = lsp_outside_targets c.args.kind.alpha c.args.kind.log c.args.kind.s c.args.spectrum.now c.args.kind.beta c.args.first c.args.start.now _ i out in
     let p = err_from_is_err_and c.from_residual-in_err-targets_in.result c.from_residual-in_err-targets_in.ensures.1 in
     record { value = rw (p.1, d) refl; start_after = rw d refl; targets_after = rw d refl }
-
-pub copy-requires-2 : goal.copy-requires-2
-copy-requires-2 c =
-    let n : length c.copy.new.to ≡ length c.args.b.now = c.copy.auto.to in
-    let m : length c.start_in.new.b ≡ length c.copy.new.to = c.start_in.auto.b in
-    c.requires.start_len.0 ∙ sym (m ∙ n ∙ c.requires.mgc_len.1)
-
-pub copy-requires-3 : goal.copy-requires-3
-copy-requires-3 c =
-    let n : length c.targets_in.new.b ≡ length c.args.t.now = c.targets_in.auto.b in
-    c.requires.start_len.1 ∙ sym (n ∙ c.requires.mgc_len.2)
 
 pub returns : goal.returns
 returns c =
