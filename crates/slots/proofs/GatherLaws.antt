@@ -1,20 +1,19 @@
 -- The values of a voice's slots, stored one after the other. Assumes nothing.
 use mathlib.Core.Path.{◌≡◌, refl, sym, ◌∙◌, ap}
-use mathlib.Core.Bool.{Bool, true, false}
+use mathlib.Core.Bool.{true}
 use mathlib.Core.List.{List, [], ◌∷◌, ◌++◌}
 use Prim.Native.Nat.{ℕ, ◌+◌, ◌*◌}
 use native.Mathlib.Omega.{arith}
 use lib.ListN.{length, take, length-map}
 use lib.Seq.{sets}
 use lib.Ieee.{Float}
-use mir.Val.{bool_byte}
 use borrow.Author.Tests.{eq-eqb}
 use Rattle.number.specs.Lists.{row}
 use Rattle.number.proofs.Lists.{sets_append}
 use Rattle.configuration.specs.Limits.{limits_kept}
 use Rattle.voice.specs.declared.Voice.{Voice}
 use Rattle.voice.proofs.FrontLaws.{lent_front}
-use Rattle.slots.specs.Slots.{bits, flag, head_values, excitation_values, spectrum_values, filter_values, values_of, spectrum_at, filter_at}
+use Rattle.slots.specs.Slots.{bits, head_values, excitation_values, spectrum_values, filter_values, values_of, spectrum_at, filter_at}
 use Rattle.slots.proofs.CountLaws.{Long, line_count, lpf_count, coefficients_count, increments_count, excitation_count, spectrum_count}
 
 -- ---- calls that store, one after the other
@@ -28,11 +27,6 @@ pub front_stored : (w₀ w₁ : List ℕ) (a n : ℕ) (array : List Float) → w
 front_stored w₀ w₁ a n array e = e ∙ ap (λ (xs : List Float). sets w₀ a (bits xs)) (lent_front n array)
 
 -- ---- the parts of a voice, as the calls leave the slots
-
--- a bool's number is the flag
-pub flag_byte : (b : Bool) → bool_byte b ≡ flag b
-flag_byte true = refl
-flag_byte false = refl
 
 module _ (v : Voice) (long : Long v) (w₀ w₁ w₂ w₃ : List ℕ) where
   abbrev nlpf : ℕ
