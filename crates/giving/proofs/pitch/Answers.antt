@@ -1,10 +1,7 @@
 -- `pitch` meets its contract. Assumes nothing.
 use mathlib.Core.Path.{◌≡◌, refl, ap, ◌∙◌}
-use native.Mathlib.Omega.{arith}
-use Prim.Native.Nat.{◌^◌}
-use lib.Dec.{le→leb}
 use lib.IntN.{pos}
-use lib.Ieee.{Float, binary64, in_float, of_int}
+use lib.Ieee.{Float, binary64, of_int}
 use Rattle.number.specs.F64.{◌⊘◌}
 use Rattle.number.specs.Range.{clamp_of}
 use Rattle.exponential.specs.Exp.{exp_of}
@@ -15,10 +12,6 @@ use Rattle.giving.proofs.pitch.Goals as goal
 pub returns-then-lf0-configuration : goal.returns-then-lf0-configuration
 unfolding pitch_of
 returns-then-lf0-configuration c = rw c.if-lf0-configuration.true refl
-
-pub int_to_float-result : goal.int_to_float-result
-unfolding in_float
-int_to_float-result c = le→leb c.args.configuration.rate (2 ^ 53) (omega arith)
 
 pub returns : goal.returns
 unfolding pitch_of

