@@ -10,7 +10,6 @@ use lib.Ieee.{Float}
 use Rattle.number.specs.Lists.{over}
 use Rattle.history.specs.Steps.{Run, steps}
 use Rattle.history.specs.Through.{Passage, passage, through}
-use Rattle.history.specs.Feeding.{fed}
 use Rattle.history.proofs.ThroughLaws.{through_length}
 use Rattle.history.proofs.FeedingLaws.{then_through, fed_steps, through_within}
 use Rattle.noise.specs.declared.Random.{Random}

@@ -1,11 +1,10 @@
 -- `close` meets its contract, whether a sample is left or not. Assumes nothing.
 use borrow.Author.Rules.{rules}
-use mathlib.Core.Path.{◌≡◌, refl, sym, ap, ◌∙◌}
-use Prim.Native.Nat.{ℕ, ◌≤◌}
+use mathlib.Core.Path.{◌≡◌, sym}
+use Prim.Native.Nat.{◌≤◌}
 use native.Mathlib.Omega.{arith}
-use lib.ListN.{length, take}
+use lib.ListN.{length}
 use lib.Seq.{length-take-le}
-use borrow.Author.Tests.{eq-eqb, ne_eqb}
 use Rattle.configuration.proofs.LimitsLaws.{sizes}
 use Rattle.drawing.proofs.sound.close.Goals as goal
 use Rattle.drawing.proofs.sound.close.Goals.{Start}
@@ -22,13 +21,3 @@ slice_bounds-copy_from_slice-end c = sym (length-take-le _ _ (some (goal.at.slic
 
 pub copy_from_slice-requires : goal.copy_from_slice-requires
 copy_from_slice-requires c = sym (length-take-le _ _ (some (goal.at.copy_from_slice-requires c).Start))
-
-pub returns-then-voice-eq0 : goal.returns-then-voice-eq0
-returns-then-voice-eq0 c =
-    let none : c.args.voice.left ≡ 0 = omega (arith, c.if-voice-eq0.true) in
-    let whole = ap (λ (n : ℕ). take n c.args.voice.targets) c.requires.1 in
-    rw (eq-eqb _ _ none) (c.end.ensures, c.copy_from_slice.ensures.after ∙ whole)
-
-pub returns : goal.returns
-returns c =
-    rw (ne_eqb c.args.voice.left 0 (λ (e : c.args.voice.left ≡ 0). absurd (omega (arith, e, c.if-voice-eq0.false)))) (refl, refl)

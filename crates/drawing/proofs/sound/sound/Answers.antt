@@ -1,8 +1,8 @@
 -- `sound` meets its contract: the excitation, counted, and what is left to do. Assumes nothing.
 use borrow.Author.Rules.{rules}
-use mathlib.Core.Path.{◌≡◌, ap}
+use mathlib.Core.Path.{◌≡◌}
 use native.Mathlib.Omega.{arith}
-use lib.ListN.{length, length-append, length-drop}
+use lib.ListN.{length}
 use Rattle.noise.specs.Draw.{tries}
 use Rattle.configuration.proofs.LimitsLaws.{sizes}
 use Rattle.drawing.proofs.StepLaws.{Long}
@@ -15,12 +15,6 @@ long_line c = search rules
 
 long_coefficients : (c : Start) → length c.args.voice.coefficients ≡ 64
 long_coefficients c = search rules
-
-pub slice_bounds-finish-end : goal.slice_bounds-finish-end
-slice_bounds-finish-end c = omega (arith, simp (length-append, length-drop) at (ap length c.excite-excited.ensures.samples_after), c.excite-excited.ensures.made_value)
-
-pub finish-requires : goal.finish-requires
-finish-requires c = rw c.excite-excited.ensures.voice_value c.requires.0
 
 pub returns : goal.returns
 returns c =
