@@ -20,9 +20,6 @@ loop-i-preserved c =
     let l = length-set c.loop-i.d c.loop-i.i c.gc2gc_entry.result in
     (c.loop-i.invariant.0, omega arith, omega (arith, l), omega (arith, l), omega (arith, l), l ∙ c.loop-i.invariant.5, ap (λ (y : Float). set c.loop-i.d c.loop-i.i y) c.gc2gc_entry.ensures ∙ turn)
 
-pub shape_of-d : goal.shape_of-d
-shape_of-d c = simp length-set at c.loop-i.invariant.5
-
 pub returns : goal.returns
 unfolding gc2gc_of
 returns c =
