@@ -1,15 +1,10 @@
 -- `df` meets its contract: the stages that are left make of the taps here what all of them make of them at the start. Assumes nothing.
-use mathlib.Core.Path.{◌≡◌, refl, sym, ap, ◌∙◌}
+use mathlib.Core.Path.{◌≡◌, sym, ap, ◌∙◌}
 use Prim.Native.Nat.{◌+◌, ◌-◌, ◌*◌}
 use native.Mathlib.Omega.{arith}
 use Rattle.mglsa.specs.Mglsa.{stages_from, turned, df_of}
-use Rattle.mglsa.proofs.MglsaLaws.{stage_turn, stages_turn, stage_end, row_within, rows_within}
+use Rattle.mglsa.proofs.MglsaLaws.{stage_turn, stages_turn, stage_end, rows_within}
 use Rattle.mglsa.proofs.df.Goals as goal
-
-pub loop-two-init : goal.loop-two-init
-loop-two-init c =
-    let all : c.args.stages - 0 ≡ c.args.stages = omega arith in
-    rw all refl
 
 pub two_stages-out-requires : goal.two_stages-out-requires
 two_stages-out-requires c = (omega arith, rows_within (2 * c.loop-two.two) _ c.args.stages _ (omega arith) (omega arith))
@@ -17,9 +12,6 @@ two_stages-out-requires c = (omega arith, rows_within (2 * c.loop-two.two) _ c.a
 pub loop-two-preserved : goal.loop-two-preserved
 loop-two-preserved c =
     ap (stages_from _ _ (c.args.stages - 2 * (c.loop-two.two + 1)) (2 * (c.loop-two.two + 1))) c.two_stages-out.ensures ∙ stages_turn _ _ c.args.stages c.loop-two.two _ (omega arith) ∙ c.loop-two.invariant
-
-pub stage-requires : goal.stage-requires
-stage-requires c = (omega arith, row_within (c.args.stages - 1) _ c.args.stages _ (omega arith) (omega arith))
 
 pub returns-then-stages-eq1 : goal.returns-then-stages-eq1
 unfolding df_of

@@ -1,16 +1,11 @@
 -- `warp` meets its contract: the taps that are left make of the row here what all of them make of it at the start. Assumes nothing.
-use mathlib.Core.Path.{◌≡◌, refl, sym, ap, ◌∙◌}
+use mathlib.Core.Path.{sym, ap, ◌∙◌}
 use Prim.Native.Nat.{◌+◌, ◌-◌}
 use native.Mathlib.Omega.{arith}
 use lib.ListN.{length}
 use Rattle.mglsa.specs.Mglsa.{warps, warped}
 use Rattle.mglsa.proofs.MglsaLaws.{warp_turn, warp_end}
 use Rattle.mglsa.proofs.warp.Goals as goal
-
-pub loop-i-init : goal.loop-i-init
-loop-i-init c =
-    let all : length c.args.d.now - 1 - 1 ≡ length c.args.d.now - 2 = omega arith in
-    rw all refl
 
 pub loop-i-preserved : goal.loop-i-preserved
 loop-i-preserved c =

@@ -1,17 +1,7 @@
 -- `dff_both` meets its contract: each row by its taps, its sum and the stores after the loop. Assumes nothing.
 use native.Mathlib.Omega.{arith}
-use lib.ListN.{length-set}
 use Rattle.mglsa.proofs.PairLaws.{both_made}
 use Rattle.mglsa.proofs.pair.dff_both.Goals as goal
-
-pub bounds-d-n-2 : goal.bounds-d-n-2
-bounds-d-n-2 c = simp length-set (omega arith)
-
-pub bounds-d-0-2 : goal.bounds-d-0-2
-bounds-d-0-2 c = simp length-set (omega arith)
-
-pub bounds-d-n-3 : goal.bounds-d-n-3
-bounds-d-n-3 c = simp length-set (omega arith)
 
 pub returns : goal.returns
 returns c =

@@ -15,10 +15,6 @@ loop-i-init c =
       row_started _ c.args.c.now (drop n d) _ c.requires.0 (second_length d n c.requires.0 two) (c.start-2.ensures ∙ second_started d n c.requires.0 two _),
     )
 
-pub warp_both_at-s-requires : goal.warp_both_at-s-requires
-warp_both_at-s-requires c =
-    (omega arith, omega arith, omega arith, omega arith, c.loop-i.invariant.0.before, c.loop-i.invariant.1.before)
-
 pub loop-i-preserved : goal.loop-i-preserved
 loop-i-preserved c = (
   row_on _ _ _ c.loop-i.i _ _ _ _ c.loop-i-test.true c.loop-i.invariant.0 c.warp_both_at-s.ensures.first,

@@ -1,11 +1,6 @@
 -- `warp_both_at` meets its contract: a store in either row leaves the other as it was. Assumes nothing.
-use native.Mathlib.Omega.{arith}
-use lib.ListN.{length-set}
 use Rattle.mglsa.proofs.PairLaws.{warped_both}
 use Rattle.mglsa.proofs.pair.warp_both_at.Goals as goal
-
-pub bounds-d-j-2 : goal.bounds-d-j-2
-bounds-d-j-2 c = simp length-set (omega arith)
 
 pub returns : goal.returns
 returns c =
