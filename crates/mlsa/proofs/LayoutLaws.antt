@@ -9,11 +9,10 @@ use lib.Seq.{take_all, take-suc, take-suc-set, drop-drop, get_or-drop}
 use lib.Ieee.{Float, nan}
 use Rattle.number.specs.F64.{◌‼◌}
 use Rattle.number.specs.Lists.{over, row, put_row}
-use Rattle.number.proofs.Lists.{over_known, over_end, length_row}
+use Rattle.number.proofs.Lists.{over_known, over_end}
 use Rattle.lanes.specs.Lane.{lane}
 use Rattle.lanes.proofs.LaneLaws.{length_lane, lane_at}
 use Rattle.mlsa.specs.Laid.{joined, flat}
-use Rattle.mlsa.proofs.MlsaLaws.{row_within}
 use Rattle.mlsa.proofs.LaidLaws.{Each, put_joined}
 
 -- ---- a list as its first four rows of n, and the rest
@@ -77,11 +76,6 @@ module _ (k n i : ℕ) (pair out d : List Float) (e : length d ≡ n) (here : ou
   back_end h =
       let short : length (lane k n pair) ≤ i = omega (arith, length_lane k n pair) in
       here ∙ over_end (take i (lane k n pair)) d i (omega arith) ∙ take_all i (lane k n pair) short
-
-pub row_length : (k n : ℕ) (d : List Float) → k < 4 → 4 * n ≤ length d → length (row (k * n) (k * n + n) d) ≡ n
-row_length k n d h long =
-    let wide : k * n + n - k * n ≡ n = omega arith in
-    length_row (k * n) (k * n + n) d (omega arith) (row_within 4 k n (length d) h long) ∙ wide
 
 -- the four rows, one after the other
 pub back_all : (n : ℕ) (first second d l1 l2 l3 l4 : List Float) → 4 * n ≤ length d

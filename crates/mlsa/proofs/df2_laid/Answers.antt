@@ -3,9 +3,6 @@ use mathlib.Core.Path.{refl}
 use Rattle.mlsa.proofs.LaidLaws.{df2_laid, heads_at}
 use Rattle.mlsa.proofs.df2_laid.Goals as goal
 
-pub answer-requires : goal.answer-requires
-answer-requires c = c.requires.d22_len.0
-
 pub returns : goal.returns
 returns c =
     let heads = heads_at c.args.d22.now _ _ _ c.at.ensures c.at-2.ensures refl in

@@ -1,5 +1,4 @@
 -- `lay_pair` meets its contract: the first i taps of each lane are those of its row. Assumes nothing.
-use mathlib.Core.Path.{refl}
 use Prim.Native.Nat.{◌+◌, ◌*◌, ◌≤◌}
 use native.Mathlib.Omega.{arith}
 use lib.ListN.{length}
@@ -8,9 +7,6 @@ use Rattle.lanes.proofs.LaneLaws.{length_lane}
 use Rattle.mlsa.proofs.MlsaLaws.{rows_from}
 use Rattle.mlsa.proofs.LayoutLaws.{lay_turn, lay_end}
 use Rattle.mlsa.proofs.layout.lay_pair.Goals as goal
-
-pub loop-i-init : goal.loop-i-init
-loop-i-init c k h = refl
 
 pub loop-i-preserved : goal.loop-i-preserved
 loop-i-preserved c k h =
