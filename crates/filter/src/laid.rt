@@ -1,5 +1,6 @@
 // Stage 0 after the gains, with the first four rows of taps laid side by side, in two pairs, during a stretch. What it comes to is what `zero` says.
 // `nonzero` has its own loop over the samples: what the two share is one call and one line.
+// Clauses say how long the slices are, and no type: C lends the taps one by one, and the type of a slice says no length.
 ghost use Rattle.std.specs.Prelude.{◌≡◌, ℕ, ◌*◌, ◌≤◌, ◌<◌, length};
 ghost use Rattle.history.specs.Through.{passage, through};
 ghost use Rattle.mlsa.specs.Mlsa.{filter};

@@ -1,4 +1,4 @@
-// The stages from 1 on.
+// The stages from 1 on. Clauses say how long the slices are, and no type: C lends them one by one, and the type of a slice says no length.
 ghost use Rattle.std.specs.Prelude.{◌≡◌, ◌*◌, ◌≤◌, ◌<◌, length};
 ghost use Rattle.history.specs.Through.{passage, through};
 ghost use Rattle.filter.specs.Sample.{state};
@@ -43,20 +43,13 @@ pub fn stretch(
     stages: usize,
     samples: &mut [f64],
     c: &mut [f64],
-    increments: &[f64],
-    alpha: f64,
-    volume: f64,
+    course: Course<'_>,
 ) -> MelGeneralizedLogSpectrumApproximation
-    requires { (2 ≤ length c.old) × (length c.old ≤ 64) × (length increments.now ≡ length c.old) × (stages ≤ 8) }
+    requires { (2 ≤ length c.old) × (length c.old ≤ 64) × (length course.increments.now ≡ length c.old) × (stages ≤ 8) }
     ensures { passage samples.new (state c.new result.d)
-        ≡ through (sample_of alpha stages volume increments.now) (state c.old f.d) samples.old }
+        ≡ through (sample_of course.entry.alpha stages course.entry.volume course.entry.increments.now) (state c.old f.d) samples.old }
 {
     let mut d = f.d;
-    let course = Course {
-        increments,
-        alpha,
-        volume,
-    };
     stretch_in(samples, c, course, stages, &mut d);
     MelGeneralizedLogSpectrumApproximation { d }
 }

@@ -1,5 +1,6 @@
 // Stage 0.
-// The taps are lent one by one, as C has them; the pairs lie in arrays of the largest size: fixed memory.
+// The taps are lent one by one, as C has them; the pairs lie in arrays of the largest size: fixed memory. Clauses say how long the slices are, and no type:
+// the type of a slice says no length.
 ghost use Rattle.std.specs.Prelude.{◌≡◌, ◌*◌, ◌≤◌, length};
 ghost use Rattle.history.specs.Through.{passage, through};
 ghost use Rattle.mlsa.specs.Mlsa.{filter};
@@ -70,21 +71,14 @@ pub fn stretch(
     f: MelLogSpectrumApproximation,
     samples: &mut [f64],
     c: &mut [f64],
-    increments: &[f64],
-    alpha: f64,
-    volume: f64,
+    course: Course<'_>,
 ) -> MelLogSpectrumApproximation
-    requires { (2 ≤ length c.old) × (length c.old ≤ 64) × (length increments.now ≡ length c.old) }
+    requires { (2 ≤ length c.old) × (length c.old ≤ 64) × (length course.increments.now ≡ length c.old) }
     ensures { passage samples.new (state c.new result)
-        ≡ through (sample_of alpha volume increments.now) (state c.old f) samples.old }
+        ≡ through (sample_of course.entry.alpha course.entry.volume course.entry.increments.now) (state c.old f) samples.old }
 {
     let n = samples.len();
     let half = n / 2;
-    let course = Course {
-        increments,
-        alpha,
-        volume,
-    };
     let middle = part(f, &mut samples[0..half], c, course);
     part(middle, &mut samples[half..n], c, course)
 }

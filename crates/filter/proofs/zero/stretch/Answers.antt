@@ -6,4 +6,4 @@ use Rattle.filter.proofs.zero.stretch.Goals as goal
 
 pub returns : goal.returns
 returns c =
-    through_parts (sample_of c.args.alpha c.args.volume c.args.increments.now) _ _ _ _ c.args.samples.now _ _ (omega arith) c.part-middle.ensures c.part.ensures
+    through_parts (sample_of c.args.course.alpha c.args.course.volume c.args.course.increments.now) _ _ _ _ c.args.samples.now _ _ (omega arith) c.part-middle.ensures c.part.ensures
