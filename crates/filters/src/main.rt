@@ -6,6 +6,7 @@
 
 ghost use Rattle.std.specs.Prelude.{◌≡◌, ◌+◌, ◌-◌, ◌*◌, ◌≤◌, ◌<◌, IfOk, IfSome, length};
 
+use filter::Course;
 use mglsa::MelGeneralizedLogSpectrumApproximation;
 use mlsa::MelLogSpectrumApproximation;
 use std::io;
@@ -52,16 +53,14 @@ fn replay_zero(
     at: usize,
     samples: &mut [f64],
     c: &mut [f64],
-    increments: &[f64],
-    alpha: f64,
-    volume: f64,
+    course: Course<'_>,
 ) -> io::Result<()>
-    requires in_bounds { (2 ≤ length c.old) × (length c.old ≤ 64) × (length increments.now ≡ length c.old) }
+    requires in_bounds { (2 ≤ length c.old) × (length c.old ≤ 64) × (length course.increments.now ≡ length c.old) }
     requires taps_in_bounds { at + 17 * (18 + 6 * length c.old) ≤ length text.now }
 {
     let taps = 6 * c.len();
     let before = filter_at(text, at, taps);
-    let after = filter::zero::stretch(before, samples, c, increments, alpha, volume);
+    let after = filter::zero::stretch(before, samples, c, course);
     words::print_floats(rt, samples)?;
     words::print_floats(rt, c)?;
     print_filter(rt, after, taps)
@@ -76,17 +75,15 @@ fn replay_nonzero(
     taps: usize,
     samples: &mut [f64],
     c: &mut [f64],
-    increments: &[f64],
-    alpha: f64,
-    volume: f64,
+    course: Course<'_>,
 ) -> io::Result<()>
-    requires in_bounds { (2 ≤ length c.old) × (length c.old ≤ 64) × (length increments.now ≡ length c.old) }
+    requires in_bounds { (2 ≤ length c.old) × (length c.old ≤ 64) × (length course.increments.now ≡ length c.old) }
     requires stages_bound { (stages ≤ 8) × (taps ≤ 512) × (at + 17 * taps ≤ length text.now) }
 {
     let mut d = [0.0; 512];
     words::floats(text, at, &mut d[0..taps]);
     let before = MelGeneralizedLogSpectrumApproximation { d };
-    let after = filter::nonzero::stretch(before, stages, samples, c, increments, alpha, volume);
+    let after = filter::nonzero::stretch(before, stages, samples, c, course);
     words::print_floats(rt, samples)?;
     words::print_floats(rt, c)?;
     let rows = after.d;
@@ -138,13 +135,16 @@ fn replay_case(
     words::floats(text, at + 17 * 5, c);
     words::floats(text, at + 17 * (5 + nmcp), increments);
     words::floats(text, at + 17 * (5 + 2 * nmcp + taps), samples);
+    let course = Course {
+        increments,
+        alpha,
+        volume,
+    };
     let rows = at + 17 * (5 + 2 * nmcp);
     if stages == 0 {
-        replay_zero(rt, text, rows, samples, c, increments, alpha, volume)?;
+        replay_zero(rt, text, rows, samples, c, course)?;
     } else {
-        replay_nonzero(
-            rt, text, rows, stages, taps, samples, c, increments, alpha, volume,
-        )?;
+        replay_nonzero(rt, text, rows, stages, taps, samples, c, course)?;
     }
     Ok(Some(size))
 }
