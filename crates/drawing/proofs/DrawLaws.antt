@@ -70,6 +70,9 @@ draws_on v e =
     positive (suc n) h = omega arith
 
 module _ (v : Voice) (out : List Float) (start : ℕ) where
+  abbrev kept : Bool
+  kept = acceptable v.configuration v.meter v.left v.first v.random.used
+
   -- an answer without samples
   without : (n : ℕ) → drawn v out start ≡ answer n [] v → Draws v out start (record { number = n; made = 0; voice = v }) out
   without n e = record { number = rw e refl; made = rw e refl; voice = rw e refl; buffer = rw e (sym (placed_none start out)) }
@@ -81,14 +84,23 @@ module _ (v : Voice) (out : List Float) (start : ℕ) where
       go : (n : ℕ) × (number_of e ≡ suc n) → Draws v out start (record { number = number_of e; made = 0; voice = v }) out
       go (n, k) = rw k (without (suc n) (rw (← h, k) refl))
 
+  pub draws_idle : kept ≡ false → Draws v out start (record { number = 2; made = 0; voice = v }) out
+  unfolding drew idle
+  draws_idle k = without 2 (rw k refl)
+
+  pub draws_none_left : kept ≡ true → eqb v.left 0 ≡ true → Draws v out start (record { number = 10; made = 0; voice = v }) out
+  unfolding drew idle
+  draws_none_left k e = without 10 (rw (k, e) refl)
+
+  -- where nothing refuses it
   module _ (none : draw_refusal (voice_of tries) v ≡ 0) where
     drawn_is : (n : ℕ) → min (room_from start out) v.left ≡ n → drawn v out start ≡ sampled (steps (step tries) n v)
     unfolding drew
     drawn_is n h = rw (none, h) refl
 
-    pub draws_no_room : room_from start out ≡ 0 → Draws v out start (record { number = 0; made = 0; voice = v }) out
+    pub draws_empty : room_from start out ≡ 0 → Draws v out start (record { number = 0; made = 0; voice = v }) out
     unfolding steps
-    draws_no_room h = without 0 (drawn_is 0 (ap (λ (r : ℕ). min r v.left) h ∙ zero-min v.left))
+    draws_empty h = without 0 (drawn_is 0 (ap (λ (r : ℕ). min r v.left) h ∙ zero-min v.left))
 
     -- n samples asked for, in their place
     module _ (n : ℕ) (is-n : n ≡ min (room_from start out) v.left) (inside : start + n ≤ length out) (made : ℕ) (last : Voice) (part : List Float)
@@ -97,7 +109,22 @@ module _ (v : Voice) (out : List Float) (start : ℕ) where
       buffer_is : put_row start (start + n) part out ≡ placed start (steps (step tries) n v).made out
       buffer_is = rw is-part (put_part start n (steps (step tries) n v).made out made is_made few)
 
-      pub draws_made : (number : ℕ) → number ≡ number_for made n → Draws v out start (record { number = number; made = made; voice = last }) (put_row start (start + n) part out)
-      draws_made number h =
+      pub draws_sounded : (number : ℕ) → number ≡ number_for made n → Draws v out start (record { number = number; made = made; voice = last }) (put_row start (start + n) part out)
+      draws_sounded number h =
           let is = drawn_is n (sym is-n) in
           record { number = rw (is, steps_dry (step tries) n v, ← is_made) h; made = rw is is_made; voice = rw is is_last; buffer = rw is buffer_is }
+
+  -- the same, where the voice is usable and samples are left
+  module _ (k : kept ≡ true) (e : eqb v.left 0 ≡ false) where
+    unrefused : draw_refusal (voice_of tries) v ≡ 0
+    unfolding idle
+    unrefused = rw (k, e) refl
+
+    pub draws_no_room : length out ≤ start → Draws v out start (record { number = 0; made = 0; voice = v }) out
+    draws_no_room h = draws_empty unrefused (omega arith)
+
+    pub draws_made : (n : ℕ) → n ≡ min (room_from start out) v.left → start + n ≤ length out → (made : ℕ) (last : Voice) (part : List Float)
+        → last ≡ (steps (step tries) n v).state → made ≡ length (steps (step tries) n v).made
+        → part ≡ over (steps (step tries) n v).made made (row start (start + n) out) → made ≤ n
+        → (number : ℕ) → number ≡ number_for made n → Draws v out start (record { number = number; made = made; voice = last }) (put_row start (start + n) part out)
+    draws_made n is-n inside made last part is_last is_made is-part few number h = draws_sounded unrefused n is-n inside made last part is_last is_made is-part few number h

@@ -11,7 +11,7 @@ ghost use Rattle.voice.specs.Voice.{most_meter};
 ghost use Rattle.drawing.specs.Step.{taps_of, excitation_of, with_excitation, counted, step};
 ghost use Rattle.drawing.specs.Finish.{pulse_at_end, entries_at_end, with_remains, ended};
 
-use filter::{nonzero, zero};
+use filter::{Course, nonzero, zero};
 use mglsa::MelGeneralizedLogSpectrumApproximation;
 use mlsa::MelLogSpectrumApproximation;
 use pulse::Pulse;
@@ -83,13 +83,18 @@ fn filter_stage(voice: Voice, c: &mut [f64], samples: &mut [f64]) -> Remains
     let volume = configuration.volume;
     let n = c.len();
     let increments = voice.increments;
+    let course = Course {
+        increments: &increments[..n],
+        alpha,
+        volume,
+    };
     let mut zero = voice.zero;
     let mut nonzero = voice.nonzero;
     if configuration.stage == 0 {
-        zero = zero::stretch(zero, samples, c, &increments[..n], alpha, volume);
+        zero = zero::stretch(zero, samples, c, course);
     } else {
         let stage = configuration.stage as usize;
-        nonzero = nonzero::stretch(nonzero, stage, samples, c, &increments[..n], alpha, volume);
+        nonzero = nonzero::stretch(nonzero, stage, samples, c, course);
     }
     let pulse = close(voice, c);
     Remains {
