@@ -1,5 +1,5 @@
 -- `fir` meets its contract: the first two taps of each row, the groups, and the taps one by one. Assumes nothing.
-use mathlib.Core.Path.{◌≡◌, ap, ◌∙◌}
+use mathlib.Core.Path.{◌≡◌, ap}
 use Prim.Native.Nat.{ℕ, ◌<◌}
 use native.Mathlib.Omega.{arith}
 use lib.ListN.{length}
@@ -9,28 +9,6 @@ use Rattle.fir.proofs.FirLaws.{taps_by}
 use Rattle.lanes.specs.Rows.{row_at, number_at, taps_at}
 use Rattle.lanes.proofs.RowLaws.{each_row, length_row_at}
 use Rattle.lanes.proofs.five.fir.Goals as goal
-use Rattle.lanes.proofs.five.fir.Goals.{After-groups-grouped, After-singles-s}
-
--- the lists are as long as they were, after the groups and after the single taps
-grouped_long : (c : After-groups-grouped) → (length c.groups-grouped.new.first ≡ length c.args.first.now) × (length c.groups-grouped.new.second ≡ length c.args.second.now) × (length c.groups-grouped.new.last ≡ length c.args.last.now)
-grouped_long c = (c.groups-grouped.auto.first ∙ c.start_all-begun.auto.first, c.groups-grouped.auto.second ∙ c.start_all-begun.auto.second, c.groups-grouped.auto.last ∙ c.start_all-begun.auto.last)
-
-all_long : (c : After-singles-s) → (length c.singles-s.new.first ≡ length c.args.first.now) × (length c.singles-s.new.second ≡ length c.args.second.now) × (length c.singles-s.new.last ≡ length c.args.last.now)
-all_long c = (c.singles-s.auto.first ∙ c.groups-grouped.auto.first ∙ c.start_all-begun.auto.first, c.singles-s.auto.second ∙ c.groups-grouped.auto.second ∙ c.start_all-begun.auto.second, c.singles-s.auto.last ∙ c.groups-grouped.auto.last ∙ c.start_all-begun.auto.last)
-
-pub singles-s-requires : goal.singles-s-requires
-singles-s-requires c =
-    let long = grouped_long (goal.at.singles-s-requires c).After-groups-grouped in
-    omega arith
-
-pub shape_of-first : goal.shape_of-first
-shape_of-first c = (all_long (goal.at.shape_of-first c).After-singles-s).0
-
-pub shape_of-second : goal.shape_of-second
-shape_of-second c = (all_long (goal.at.shape_of-second c).After-singles-s).1
-
-pub shape_of-last : goal.shape_of-last
-shape_of-last c = (all_long (goal.at.shape_of-last c).After-singles-s).2
 
 -- the taps after it, and the sum of the two running sums
 abbrev filtered : Taps → Filtered

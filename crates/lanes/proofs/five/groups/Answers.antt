@@ -1,16 +1,11 @@
 -- `groups` meets its contract: the groups that are left make of each row here what all of them make of it at the start. Assumes nothing.
-use mathlib.Core.Path.{◌≡◌, refl, sym, ap, ◌∙◌}
+use mathlib.Core.Path.{sym, ap, ◌∙◌}
 use Prim.Native.Nat.{◌+◌, ◌-◌, ◌*◌, ◌/◌}
 use native.Mathlib.Omega.{arith}
 use lib.ListN.{length}
 use Rattle.fir.specs.Fir.{groups}
 use Rattle.fir.proofs.FirLaws.{group_turn, groups_end}
 use Rattle.lanes.proofs.five.groups.Goals as goal
-
-pub loop-g-init : goal.loop-g-init
-loop-g-init c k h =
-    let all : (length c.args.c.now - 2) / 4 - 0 ≡ (length c.args.c.now - 2) / 4 = omega arith in
-    rw all refl
 
 pub loop-g-preserved : goal.loop-g-preserved
 loop-g-preserved c k h =

@@ -1,8 +1,0 @@
--- `group_all` meets its contract: both pairs, and the row by itself. Assumes nothing.
-use native.Mathlib.Omega.{arith}
-use Rattle.lanes.proofs.RowLaws.{each_row}
-use Rattle.lanes.proofs.five.group_all.Goals as goal
-
-pub returns : goal.returns
-returns c =
-    each_row _ (c.group.ensures 0 (omega arith)) (c.group.ensures 1 (omega arith)) (c.group-2.ensures 0 (omega arith)) (c.group-2.ensures 1 (omega arith)) c.group-3.ensures

@@ -1,8 +1,0 @@
--- `start_all` meets its contract: both pairs, and the row by itself. Assumes nothing.
-use native.Mathlib.Omega.{arith}
-use Rattle.lanes.proofs.RowLaws.{each_row}
-use Rattle.lanes.proofs.five.start_all.Goals as goal
-
-pub returns : goal.returns
-returns c =
-    each_row _ (c.start.ensures 0 (omega arith)) (c.start.ensures 1 (omega arith)) (c.start-2.ensures 0 (omega arith)) (c.start-2.ensures 1 (omega arith)) c.start-3.ensures
