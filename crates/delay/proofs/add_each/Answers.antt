@@ -1,12 +1,9 @@
 -- `add_each` meets its contract: what the rest of the turns makes of the line is what all of them make. Assumes nothing.
-use mathlib.Core.Path.{refl, sym, ◌∙◌}
+use mathlib.Core.Path.{sym, ◌∙◌}
 use native.Mathlib.Omega.{arith}
 use lib.ListN.{length-set}
 use Rattle.delay.proofs.LineLaws.{pulse_turn, pulse_end}
 use Rattle.delay.proofs.add_each.Goals as goal
-
-pub loop-k-init : goal.loop-k-init
-loop-k-init c = (refl, refl)
 
 pub loop-k-preserved : goal.loop-k-preserved
 loop-k-preserved c =
