@@ -1,8 +1,7 @@
 -- Numbers and their bytes, over the width: each comes back from the other, alone and in a slice; and the turns of the loops that read and write them. Assumes nothing.
-use Rattle.std.proofs.Common.{◌≡◌, ℕ, zero, suc, ◌+◌, ◌-◌, ◌*◌, ◌/◌, ◌%◌, ◌^◌, ◌<◌, ◌≤◌, Bool, true, false, leb, List, [], ◌∷◌, ◌++◌, length, take, drop, sym, refl, ap, ◌∙◌, append_assoc, lt_of_lt_of_le, mod-lt, mod-eq_of_lt, arith, lit<, length-drop, length-take, length-take-le, get_or-drop, le-leb, leb-false, leb-true}
+use Rattle.std.proofs.Common.{◌≡◌, ℕ, zero, suc, ◌+◌, ◌-◌, ◌*◌, ◌/◌, ◌%◌, ◌^◌, ◌<◌, ◌≤◌, Bool, true, false, leb, List, [], ◌∷◌, ◌++◌, length, take, drop, sym, refl, ap, ◌∙◌, append_assoc, lt_of_lt_of_le, mod-lt, mod-eq_of_lt, arith, lit<, length-drop, length-take, length-take-le, get_or-drop, leb-true}
 use native.Mathlib.Nat.{div-one, div-div-eq-div-mul, pow-suc, pow-succ', mod-one, one-le-pow, div-add-mod, add-mul-mod_self_left, pow-le-pow_right}
 use lib.Seq.{sets, sets-eq}
-use borrow.Author.Tests.{lt-leb}
 use Rattle.std.specs.Prelude.{Some}
 use Rattle.std.specs.Int.{w64, byte_at, bytes_low_first, to_le_bytes, from_le_bytes}
 use Rattle.std.proofs.lemmas.Nat.{le_bytes_8}
@@ -85,14 +84,6 @@ pub written : (s : List ℕ) (at w v : ℕ) → at + w ≤ length s → sets s a
 written s at w v h = rw length_bytes at (sets-eq (bytes_of w v) s at (rw length_bytes h))
 
 -- ---- eight bytes of room
-
--- the test that makes no sum
-pub room_test : (n at : ℕ) → 8 ≤ n → leb at (n - 8) ≡ room n at
-room_test n at h = go (leb at (n - 8)) refl
-  where
-    go : (b : Bool) → leb at (n - 8) ≡ b → b ≡ room n at
-    go true e = let f : at ≤ n - 8 = leb-true at (n - 8) e in sym (le-leb (at + 8) n (omega arith))
-    go false e = let f : n - 8 < at = leb-false at (n - 8) e in sym (lt-leb (at + 8) n (omega arith))
 
 -- ---- there and back in a slice
 

@@ -1,8 +1,0 @@
--- `strictly_within`: the first test decides, or leaves it to the second. Assumes nothing.
-use Rattle.number.proofs.range.strictly_within.Goals as goal
-
-pub returns-then-low-x : goal.returns-then-low-x
-returns-then-low-x c = simp c.if-low-x.true
-
-pub returns-else-low-x : goal.returns-else-low-x
-returns-else-low-x c = simp c.if-low-x.false
