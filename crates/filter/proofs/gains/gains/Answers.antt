@@ -12,11 +12,6 @@ use Rattle.filter.proofs.gains.gains.Goals as goal
 pub loop-i-init : goal.loop-i-init
 loop-i-init c = through_all _ _ _
 
-pub loop-i-smaller : goal.loop-i-smaller
-loop-i-smaller c =
-    let still = length_block (gain_of _) c.loop-i.i _ c.loop-i.c0 _ c.loop-i.samples _ (omega arith) (omega arith) c.block-c0.ensures in
-    omega (arith, still)
-
 pub loop-i-preserved : goal.loop-i-preserved
 loop-i-preserved c =
     let step : c.loop-i.i + 128 ≡ c.loop-i.i + c.min-n.result = omega arith in

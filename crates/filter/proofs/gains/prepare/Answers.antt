@@ -1,10 +1,9 @@
 -- `prepare` meets its contract. Assumes nothing.
-use mathlib.Core.Path.{◌≡◌, refl, sym, ap, ◌∙◌, subst}
-use Prim.Native.Nat.{ℕ}
+use mathlib.Core.Path.{refl, sym, ap, ◌∙◌}
 use native.Mathlib.Omega.{arith}
 use lib.Ieee.{Float}
 use Rattle.number.specs.F64.{◌⊕◌}
-use Rattle.filter.specs.Zero.{on_by, Prepared}
+use Rattle.filter.specs.Zero.{on_by}
 use Rattle.filter.proofs.GainLaws.{on_next, prepared_more}
 use Rattle.filter.proofs.gains.prepare.Goals as goal
 
@@ -16,8 +15,3 @@ pub loop-i-preserved : goal.loop-i-preserved
 loop-i-preserved c =
     let more = prepared_more c.args.increment c.args.start c.loop-i.i c.loop-i.rests c.loop-i.powers c.loop-i.c0 c.split-p.result.rest c.split-p.result.power (omega arith) (omega arith) c.loop-i.invariant.0 c.split-p.ensures c.loop-i.invariant.1 in
     (ap (λ (c0 : Float). c0 ⊕ c.args.increment) c.loop-i.invariant.0 ∙ sym (on_next c.args.increment c.args.start c.loop-i.i), more)
-
-pub returns : goal.returns
-returns c =
-    let all : c.loop-i.i ≡ c.args.n = omega arith in
-    subst (λ (n : ℕ). (c.loop-i.c0 ≡ on_by c.args.increment c.args.start n) × Prepared c.args.increment c.args.start n c.loop-i.rests c.loop-i.powers) all (c.loop-i.invariant.0, c.loop-i.invariant.1)

@@ -8,10 +8,6 @@ use Rattle.filter.proofs.nonzero.stretch_in.Goals as goal
 pub loop-x-init : goal.loop-x-init
 loop-x-init c = through_all _ _ _
 
-pub sample-y-requires : goal.sample-y-requires
-sample-y-requires c =
-    (omega arith, omega arith, rw (c.loop-x.auto.c, c.loop-x.auto.d) c.requires.2)
-
 pub loop-x-preserved : goal.loop-x-preserved
 loop-x-preserved c =
     through_turn _ c.loop-x.x-index _ c.loop-x.samples nan _ (omega arith) c.sample-y.ensures ∙ c.loop-x.invariant
