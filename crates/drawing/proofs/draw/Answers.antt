@@ -1,11 +1,10 @@
 -- `draw` meets its contract. Assumes nothing.
 use mathlib.Core.Path.{◌≡◌, sym, ap, ◌∙◌}
-use Prim.Native.Nat.{◌+◌, ◌-◌, ◌≤◌}
+use Prim.Native.Nat.{◌+◌, ◌≤◌}
 use native.Mathlib.Omega.{arith}
 use lib.ListN.{length, length-append, length-drop}
 use Rattle.number.specs.Lists.{row}
 use Rattle.voice.proofs.IdleLaws.{kept_of, total_of}
-use Rattle.drawing.specs.Draw.{room_from}
 use Rattle.drawing.proofs.DrawLaws.{lent_part, draws_on, draws_refused, draws_empty, draws_sounded}
 use Rattle.drawing.proofs.draw.Goals as goal
 
