@@ -1,5 +1,5 @@
 -- A float's bits read back as the float, and bits come back from the float of them but for the other NaN patterns. Assumes nothing.
-use Rattle.std.proofs.Common.{◌≡◌, ℕ, ◌%◌, ◌^◌, ◌<◌, ◌≤◌, Bool, true, false, not, ◌&&◌, T, eqb, sym, refl, ◌∙◌, arith, le-ltb, eqb-true}
+use Rattle.std.proofs.Common.{◌≡◌, ℕ, ◌%◌, ◌^◌, ◌<◌, ◌≤◌, Bool, true, false, not, ◌&&◌, T, eqb, sym, refl, ◌∙◌, arith, le-ltb, lt-ltb, eqb-true}
 use borrow.Author.Tests.{eqb-false, not-true, not-false}
 use lib.Ieee.{Float, nan, is_nan, binary64, fits, to_bits, nan_bits}
 use lib.Ieee.Bits.{of_bits-to_bits, to_bits-of_bits, nan_bits_is, nan_bits_above}
@@ -10,8 +10,12 @@ use Rattle.number.proofs.Floats.{is_the_nan}
 pub below_no_nan : (b : ℕ) → b % 0x8000_0000_0000_0000 ≤ 0x7ff0_0000_0000_0000 → nan_bits binary64 b ≡ false
 below_no_nan b h = nan_bits_above binary64 b ∙ le-ltb _ _ h
 
+-- above it every pattern is
+pub above_nan : (b : ℕ) → 0x7ff0_0000_0000_0000 < b % 0x8000_0000_0000_0000 → nan_bits binary64 b ≡ true
+above_nan b h = nan_bits_above binary64 b ∙ lt-ltb _ _ h
+
 -- a NaN's pattern reads as the NaN
-nan_of_bits : (b : ℕ) → nan_bits binary64 b ≡ true → float_of b ≡ nan
+pub nan_of_bits : (b : ℕ) → nan_bits binary64 b ≡ true → float_of b ≡ nan
 nan_of_bits b e = is_the_nan (float_of b) (sym (nan_bits_is binary64 b) ∙ e)
 
 pub float_of_bits_of : (x : Float) → T (fits binary64 x) → float_of (bits_of x) ≡ x

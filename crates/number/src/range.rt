@@ -1,19 +1,20 @@
-// Where a float stands: a NaN, finite, between two others, and the nearest to it that is.
+// Where a float stands: a NaN, finite, between two others, and the nearest to it that is. `is_nan` and `is_finite` are comparisons, which their edits change.
 ghost use Rattle.std.specs.Prelude.{◌≡◌, is_nan};
 ghost use Rattle.number.specs.Range.{finite, is_within, is_strictly_within, clamp_of};
 
-// Whether x is the NaN.
+// Only a NaN differs from itself.
 pub fn is_nan(x: f64) -> bool
     ensures { result ≡ is_nan x }
 {
-    x.is_nan()
+    x != x
 }
 
-// Neither a NaN nor an infinity.
+// Neither a NaN nor an infinity: strictly between the infinities.
 pub fn is_finite(x: f64) -> bool
     ensures { result ≡ finite x }
 {
-    x.is_finite()
+    let top = 1.0 / 0.0;
+    strictly_within(x, -top, top)
 }
 
 // Whether low <= x <= high. Where a NaN is among them it is false.
