@@ -8,16 +8,16 @@ use Rattle.vectors.specs.Vectors.{energy_of}
 use Rattle.vectors.proofs.VectorLaws.{sum_turn, sum_done}
 use Rattle.vectors.proofs.energy.Goals as goal
 
-pub loop-x-init : goal.loop-x-init
+pub loop-i-init : goal.loop-i-init
 unfolding energy_of
-loop-x-init c =
+loop-i-init c =
     let e : length c.args.c.now - 0 ≡ length c.args.c.now = omega arith in
     rw e refl
 
-pub loop-x-preserved : goal.loop-x-preserved
-loop-x-preserved c =
-    sum_turn (λ (j : ℕ). c.args.c.now ‼ j ⊗ c.args.c.now ‼ j) c.loop-x.x-index (length c.args.c.now) c.loop-x.sum (omega arith) ∙ c.loop-x.invariant
+pub loop-i-preserved : goal.loop-i-preserved
+loop-i-preserved c =
+    sum_turn (λ (j : ℕ). c.args.c.now ‼ j ⊗ c.args.c.now ‼ j) c.loop-i.i (length c.args.c.now) c.loop-i.sum (omega arith) ∙ c.loop-i.invariant
 
 pub returns : goal.returns
 returns c =
-    sym (sum_done (λ (j : ℕ). c.args.c.now ‼ j ⊗ c.args.c.now ‼ j) c.loop-x.x-index (length c.args.c.now) c.loop-x.sum (omega arith)) ∙ c.loop-x.invariant
+    sym (sum_done (λ (j : ℕ). c.args.c.now ‼ j ⊗ c.args.c.now ‼ j) c.loop-i.i (length c.args.c.now) c.loop-i.sum (omega arith)) ∙ c.loop-i.invariant

@@ -4,5 +4,5 @@ use Rattle.number.specs.F64.{◌⊗◌, ◌‼◌}
 use Rattle.vectors.specs.Vectors.{sum_from, energy_of}
 use Rattle.vectors.proofs.energy.Given as goal
 
-abbrev pub invariant-loop-x : goal.invariant-loop-x
-invariant-loop-x l = sum_from (λ j. l.c ‼ j ⊗ l.c ‼ j) l.x-index (length l.c - l.x-index) l.sum ≡ energy_of l.c
+abbrev pub invariant-loop-i : goal.invariant-loop-i
+invariant-loop-i l = sum_from (λ j. l.c ‼ j ⊗ l.c ‼ j) l.i (length l.c - l.i) l.sum ≡ energy_of l.c
