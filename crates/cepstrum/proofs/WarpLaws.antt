@@ -1,13 +1,12 @@
 -- Passes of `freqt` in one sweep are the passes one after the other. Assumes nothing.
 use mathlib.Core.Path.{◌≡◌, refl, sym, ◌∙◌, ap}
 use mathlib.Core.List.{List, [], ◌∷◌, ◌++◌}
-use Prim.Native.Nat.{ℕ, zero, suc, ◌+◌, ◌-◌, ◌*◌, ◌≤◌, ◌<◌}
+use Prim.Native.Nat.{ℕ, ◌+◌, ◌-◌, ◌≤◌}
 use native.Mathlib.Omega.{arith}
-use lib.ListN.{length, get_or, take, drop, take-append-drop}
+use lib.ListN.{length, drop, take-append-drop}
 use lib.Seq.{drop-drop}
 use lib.Ieee.{Float}
 use Rattle.number.specs.F64.{◌⊕◌, ◌⊖◌, ◌⊗◌, 1f}
-use Rattle.std.specs.Simd.{first_chunks}
 use Rattle.number.specs.Lists.{row}
 use Rattle.wave.specs.Wave.{last_or, outputs, swept, first_after, seconds_of, wave_of}
 use Rattle.cepstrum.specs.Cepstrum.{onward, pass, passes}
@@ -55,16 +54,3 @@ passes_row a c i e g h =
     let rest : drop e c ≡ drop (e - i) (drop i c) = rw (drop-drop (e - i) i c, n) refl in
     let all : row i e c ++ drop e c ≡ drop i c = rw rest (take-append-drop (e - i) (drop i c)) in
     sym (passes_append a (row i e c) (drop e c) g) ∙ ap (λ (l : List Float). passes a l g) all
-
--- the eight coefficients of a turn, and the turn
-pub chunk_at : (n k : ℕ) (c : List Float) → k < n → get_or (first_chunks 8 n c) k [] ≡ take 8 (drop (8 * k) c)
-chunk_at zero k c h = absurd (omega arith)
-chunk_at (suc n) zero c h = refl
-chunk_at (suc n) (suc k) c h =
-    let e : 8 * k + 8 ≡ 8 * suc k = omega arith in
-    chunk_at n k (drop 8 c) (omega arith) ∙ rw (drop-drop (8 * k) 8 c) (ap (λ (i : ℕ). take 8 (drop i c)) (omega arith))
-
-pub eights_turn : (a : Float) (c x g : List Float) (k : ℕ) → x ≡ take 8 (drop (8 * k) c) → passes a (drop (8 * (k + 1)) c) (passes a x g) ≡ passes a (drop (8 * k) c) g
-eights_turn a c x g k e =
-    let n : 8 * (k + 1) - 8 * k ≡ 8 = omega arith in
-    rw e (rw n at (passes_row a c (8 * k) (8 * (k + 1)) g (omega arith)))

@@ -62,12 +62,12 @@ pub fn freqt(c: &[f64], alpha: f64) -> [f64; 576]
     ensures { result ≡ freqt_of alpha 576 c.now }
 {
     let mut g = [0.0; 576];
-    let (eights, rest) = c.as_chunks::<8>();
-    for x in eights {
-        wave::eight_in(&mut g, alpha, x);
+    // By an index, which the edits of both loops change.
+    for k in 0..c.len() / 8 {
+        wave::eight_in(&mut g, alpha, &c[8 * k..8 * k + 8]);
     }
-    for x in rest {
-        pass_in(&mut g, alpha, *x);
+    for i in c.len() / 8 * 8..c.len() {
+        pass_in(&mut g, alpha, c[i]);
     }
     g
 }
