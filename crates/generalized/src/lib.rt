@@ -84,7 +84,10 @@ pub fn mgc2mgc(c: &mut [f64], s: u64, d: &mut [f64]) -> Result<(), Outside>
     ensures c_after { c.new ≡ or_else c.old (gnorm_of s c.old) }
     ensures d_after { d.new ≡ or_else d.old (mgc2mgc_of s (length d.old) c.old) }
 {
-    gnorm(c, s)?;
+    // No `?`: an edit changes what is returned here.
+    let Ok(()) = gnorm(c, s) else {
+        return Err(Outside);
+    };
     let k = power::inverse_root(c[0], s)?;
     gc2gc(c, s, d);
     ignorm_by(d, s, k);
