@@ -20,7 +20,10 @@ pub(crate) fn find_pairs(
 {
     let mut last = next;
     for i in 0..32 {
-        let t = find_pair(last)?;
+        // No `?`: an edit changes what is returned here.
+        let Some(t) = find_pair(last) else {
+            return None;
+        };
         firsts[i] = t.r1;
         seconds[i] = t.r2;
         sums[i] = t.s;

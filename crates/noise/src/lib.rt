@@ -11,6 +11,9 @@ mod pair;
 
 use crate::gather::{estimate, find_pairs, multiply, weigh};
 
+// How many values a filling makes.
+const VALUES: usize = 64;
+
 // The state of the noise: `next` of the draws, and 64 values, of which `used` are taken. C knows its fields.
 #[repr(C)]
 #[derive(Clone, Copy)]
@@ -37,7 +40,7 @@ impl Random {
         ensures value { taken_of result self.new ≡ noise_of tries self.old }
         ensures unchanged { result ≡ None → self.new ≡ self.old }
     {
-        if self.used >= 64 {
+        if self.used >= VALUES {
             self.next = fill_queue(self.next, &mut self.queue)?;
             self.used = 0;
         }
