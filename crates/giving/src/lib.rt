@@ -10,6 +10,7 @@ ghost use Rattle.giving.specs.Give.{Accepts, Gives};
 
 use begin::begin;
 use configuration::Configuration;
+use elementary::answer::Outside;
 use number::range::clamp;
 use refusing::{Frame, refusal};
 use voice::answers::{DONE, Refusal};
@@ -37,14 +38,18 @@ pub fn accepted(voice: &Voice, frame: Frame) -> Result<Voice, Refusal>
     let mut coefficients = voice.coefficients;
     let mut targets = voice.targets;
     let mut increments = voice.increments;
-    begin(
+    // No `?`, and the refusal beforehand: an edit changes what is returned here.
+    let outside = Refusal::from(Outside);
+    let Ok(()) = begin(
         configuration,
         voice.first,
         frame.spectrum,
         &mut coefficients[..nmcp],
         &mut targets[..nmcp],
         &mut increments[..nmcp],
-    )?;
+    ) else {
+        return Err(outside);
+    };
     let mut lpf = voice.lpf;
     lpf[..configuration.nlpf].copy_from_slice(frame.lpf);
     let pitch = pitch(configuration, frame.lf0);

@@ -1,16 +1,19 @@
 -- `accepted` meets its contract: refused by a row, outside, or inside as preparing is. Assumes nothing.
 use borrow.Author.Rules.{rules}
-use mathlib.Core.Path.{◌≡◌, refl, sym, ◌∙◌}
+use mathlib.Core.Path.{◌≡◌, refl, sym, ◌∙◌, subst}
 use native.Mathlib.Omega.{arith}
 use lib.ListN.{length}
 use lib.Seq.{length-take-le}
 use Prim.Native.Nat.{◌≤◌}
+use Rattle.std.specs.Prelude.{Err}
 use Rattle.std.proofs.lemmas.Result.{err_from_is_err_and}
 use Rattle.elementary.proofs.OutcomeLaws.{is_outside}
 use Rattle.configuration.proofs.LimitsLaws.{Sizes}
 use Rattle.refusing.specs.Given.{frame_of}
 use Rattle.refusing.specs.Refusal.{earlier}
 use Rattle.refusing.proofs.EarlierLaws.{Fits, fits_of, sizes_of}
+use Rattle.voice.specs.declared.answers.Refusal.{Refusal}
+use Rattle.giving.specs.Give.{Accepts}
 use Rattle.giving.proofs.GiveLaws.{asked, accepts_refused, accepts_outside, accepts_inside}
 use Rattle.giving.proofs.accepted.Goals as goal
 use Rattle.giving.proofs.accepted.Goals.{In_ok-refusal}
@@ -70,12 +73,11 @@ begin-requires c =
       start_len = (length-take-le _ _ (long_coefficients here) ∙ sym entries, length-take-le _ _ (long_targets here) ∙ sym entries, length-take-le _ _ (long_increments here) ∙ sym entries);
     }
 
-pub returns-in_err-begin : goal.returns-in_err-begin
-returns-in_err-begin c =
-    let p = err_from_is_err_and c.from_residual-in_err-begin.result c.from_residual-in_err-begin.ensures.1 in
-    rw (p.1, p.2)
-    (accepts_outside (frame_of c.args.frame) c.args.voice.now (none (goal.at.returns-in_err-begin c).In_ok-refusal)
-    (is_outside (asked (frame_of c.args.frame) c.args.voice.now) _ c.begin.ensures.value c.in_err-begin.was))
+pub returns-in_default : goal.returns-in_default
+returns-in_default c =
+    subst (λ (r : Refusal). Accepts (frame_of c.args.frame) c.args.voice.now (Err r)) (sym c.from-outside.ensures)
+    (accepts_outside (frame_of c.args.frame) c.args.voice.now (none (goal.at.returns-in_default c).In_ok-refusal)
+    (is_outside (asked (frame_of c.args.frame) c.args.voice.now) _ c.begin.ensures.value c.in_default.is))
 
 pub slice_bounds-lpf-end : goal.slice_bounds-lpf-end
 slice_bounds-lpf-end c = long_lpf (goal.at.slice_bounds-lpf-end c).In_ok-refusal
@@ -100,4 +102,4 @@ returns c =
     let m : length c.begin.new.increments ≡ c.args.voice.now.configuration.nmcp = c.begin.auto.increments ∙ length-take-le _ _ (long_increments here) in
     rw c.copy_from_slice.ensures.after
     (accepts_inside (frame_of c.args.frame) c.args.voice.now (none here) _ _ _ _ (rw c.pitch-pitch.ensures at c.start.ensures) n m k (fits here).taps
-    (asked (frame_of c.args.frame) c.args.voice.now) refl (sym c.begin.ensures.value ∙ c.in_ok-begin.was) c.begin.ensures.start_after c.begin.ensures.targets_after c.begin.ensures.increments_after)
+    (asked (frame_of c.args.frame) c.args.voice.now) refl (sym c.begin.ensures.value ∙ c.in-Ok.is) c.begin.ensures.start_after c.begin.ensures.targets_after c.begin.ensures.increments_after)
