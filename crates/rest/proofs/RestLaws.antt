@@ -5,7 +5,6 @@ use mathlib.Core.List.{List, ◌++◌}
 use Prim.Native.Nat.{ℕ, ◌+◌, ◌*◌, ◌%◌, ◌≤◌, ◌<◌}
 use native.Mathlib.Omega.{arith}
 use lib.Dec.{eqb}
-use Rattle.std.specs.Prelude.{Some, None}
 use lib.ListN.{length, take, drop, replicate}
 use lib.Seq.{sets, sets-eq, length-take-le}
 use borrow.Author.Tests.{lt-ltb, le-ltb, eq-eqb, eqb-true}
@@ -14,6 +13,7 @@ use Rattle.number.proofs.Lists.{sets_all}
 use Rattle.number.proofs.Floats.{both_first, both_second}
 use Rattle.configuration.specs.Limits.{limits_kept}
 use Rattle.voice.specs.declared.Voice.{Voice}
+use Rattle.voice.specs.declared.Answered.{Answered}
 use Rattle.voice.specs.Voice.{acceptable, idle}
 use Rattle.voice.proofs.IdleLaws.{kept_of}
 use Rattle.records.specs.Records.{encoded, numbered, values_in, in_order}
@@ -23,7 +23,7 @@ use Rattle.slots.specs.Slots.{values_of, count_of, configuration_in, voice_in}
 use Rattle.slots.specs.Sound.{sound}
 use Rattle.slots.proofs.CountLaws.{Long, length_values_of, count_least, count_most}
 use Rattle.reading.proofs.SoundLaws.{sound_of}
-use Rattle.rest.specs.Rest.{records_of, save_number, Saves, record_count, slots_in, accepted, restored, Reads}
+use Rattle.rest.specs.Rest.{records_of, save_number, Saves, record_count, slots_in, accepted, restored, Restores}
 
 -- ---- save
 
@@ -149,10 +149,11 @@ module _ (bytes : List ℕ) where
   pub many_refused : 917 < record_count bytes → accepted bytes ≡ false
   many_refused h = refused_where (λ (e : accepted bytes ≡ true). omega (arith, h, (accepts_of e).most))
 
-  pub reads_none : accepted bytes ≡ false → Reads bytes None
-  unfolding restored
-  reads_none e v = record { number = rw e refl; voice = rw e refl }
+  module _ (v : Voice) where
+    pub restores_refused : (r : Answered) → accepted bytes ≡ false → (r.number ≡ 13) × (r.voice ≡ v) → Restores bytes v r
+    unfolding restored
+    restores_refused r e same = record { number = rw e same.0; voice = rw e same.1 }
 
-  pub reads_some : (w : Voice) → accepted bytes ≡ true → w ≡ voice_in (slots_in bytes) → Reads bytes (Some w)
-  unfolding restored
-  reads_some w e same v = record { number = rw e refl; voice = rw e same }
+    pub restores_done : (w : Voice) → accepted bytes ≡ true → w ≡ voice_in (slots_in bytes) → Restores bytes v (record { number = 0; voice = w })
+    unfolding restored
+    restores_done w e same = record { number = rw e refl; voice = rw e same }

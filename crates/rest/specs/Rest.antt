@@ -1,5 +1,5 @@
 -- Save and restore. Assumes nothing.
-use Rattle.std.specs.Prelude.{◌≡◌, Bool, ◌&&◌, cond, List, [], ◌∷◌, ℕ, zero, suc, ◌*◌, ◌/◌, ◌%◌, eqb, ltb, Float, length, Result, Ok, Err, Option, Some, None}
+use Rattle.std.specs.Prelude.{◌≡◌, Bool, true, false, ◌&&◌, cond, List, [], ◌∷◌, ℕ, zero, suc, ◌*◌, ◌/◌, ◌%◌, ◌≤◌, eqb, ltb, Float, length, take, Result, Ok, Err, Option, Some, None}
 use Rattle.number.specs.Lists.{over}
 use Rattle.history.specs.Numbers.{done, voice_idle, records_longer, records_wrong}
 use Rattle.history.specs.Machine.{◌⇒◌, first_of, Answer, answer}
@@ -65,11 +65,7 @@ pub record Restores (bytes : List ℕ) (v : Voice) (r : Answered) : Type 0 where
   pub number : r.number ≡ (restored bytes v).number
   pub voice : r.voice ≡ (restored bytes v).state
 
--- what it answers for a voice that was read, or for none, into the voice v
-abbrev pub restored_by : Voice → Option Voice → Answered
-restored_by v (Some w) = record { number = done; voice = w }
-restored_by v None = record { number = records_wrong; voice = v }
-
--- WHAT COMES OF READING the bytes, whatever the voice that was handed in
-abbrev pub Reads : List ℕ → Option Voice → Type 0
-Reads bytes r = (v : Voice) → Restores bytes v (restored_by v r)
+-- WHAT COMES OF READING the bytes: how many slots they are, and these at the front of the room for them; none where they are not acceptable
+abbrev pub Reads : List ℕ → Option ℕ → List ℕ → Type 0
+Reads bytes (Some n) slots = (accepted bytes ≡ true) × (n ≤ length slots) × (take n slots ≡ slots_in bytes)
+Reads bytes None slots = accepted bytes ≡ false

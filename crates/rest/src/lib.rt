@@ -6,7 +6,7 @@ ghost use Rattle.std.specs.Prelude.{true, ◌≡◌, ◌*◌, ◌≤◌, length}
 ghost use Rattle.number.specs.Lists.{over};
 ghost use Rattle.configuration.specs.Limits.{limits_kept};
 ghost use Rattle.slots.specs.Slots.{count_of};
-ghost use Rattle.rest.specs.Rest.{records_of, saved_by, Saves, Restores, Reads};
+ghost use Rattle.rest.specs.Rest.{records_of, saved_by, Saves, slots_in, accepted, Restores, Reads};
 
 use reading::check::is_sound;
 use reading::read::voice_in;
@@ -65,21 +65,19 @@ pub fn save(voice: Voice, out: &mut [u8]) -> Saved
     }
 }
 
-// The voice in the records, where the slots in them are in order and sound.
-fn read_records(bytes: &[u8], slots: &mut [u64]) -> Option<Voice>
+// Whether the records are in order and their slots sound; the slots then hold their values.
+fn read_records(bytes: &[u8], slots: &mut [u64]) -> bool
     requires { (length bytes.now ≡ 16 * length slots.old) × (12 ≤ length slots.old) }
-    ensures { Reads bytes.now result }
+    ensures value { result ≡ accepted bytes.now }
+    ensures slots_after { slots.new ≡ slots_in bytes.now }
 {
     let ordered = decode(bytes, slots);
-    if !(ordered & is_sound(slots)) {
-        return None;
-    }
-    Some(voice_in(slots))
+    ordered & is_sound(slots)
 }
 
-// The voice in the records, where they are acceptable.
-fn read(bytes: &[u8]) -> Option<Voice>
-    ensures { Reads bytes.now result }
+// How many slots there are, where the records are acceptable. A voice within the Option would be copied, and room for it cleared where there is none.
+fn read(bytes: &[u8], slots: &mut [u64; MOST_SLOTS]) -> Option<usize>
+    ensures { Reads bytes.now result slots.new }
 {
     let count = bytes.len() / RECORD;
     if bytes.len() % RECORD != 0 {
@@ -91,18 +89,21 @@ fn read(bytes: &[u8]) -> Option<Voice>
     if count > MOST_SLOTS {
         return None;
     }
-    let mut slots = [0; MOST_SLOTS];
-    read_records(bytes, &mut slots[..count])
+    if !read_records(bytes, &mut slots[..count]) {
+        return None;
+    }
+    Some(count)
 }
 
 // RESTORE: into any voice, which a refused one hands back.
 pub fn restore(voice: Voice, bytes: &[u8]) -> Answered
     ensures { Restores bytes.now voice result }
 {
-    match read(bytes) {
-        Some(restored) => Answered {
+    let mut slots = [0; MOST_SLOTS];
+    match read(bytes, &mut slots) {
+        Some(count) => Answered {
             number: DONE,
-            voice: restored,
+            voice: voice_in(&slots[..count]),
         },
         None => Answered {
             number: Refusal::RecordsWrong.number(),
