@@ -42,6 +42,7 @@ pub trait Width {
     ghost within_a_word: { BYTES ≤ 8 };
 }
 
+#[derive(Clone, Copy)]
 pub struct Bits16;
 
 impl Width for Bits16 {
@@ -60,6 +61,7 @@ impl Width for Bits16 {
     ghost within_a_word = { lit≤ tt };
 }
 
+#[derive(Clone, Copy)]
 pub struct Bits24;
 
 impl Width for Bits24 {

@@ -2,7 +2,7 @@
 use Rattle.std.proofs.Common.{◌≡◌, ℕ, ◌+◌, ◌-◌, ◌*◌, ◌/◌, ◌%◌, ◌^◌, ◌<◌, ◌≤◌, subst, mul-le-mul, arith}
 
 -- two numbers of 27 digits have a product of 54
-product27 : (h l : ℕ) → h < 2 ^ 27 → l < 2 ^ 27 → h * l ≤ 2 ^ 54
+pub product27 : (h l : ℕ) → h < 2 ^ 27 → l < 2 ^ 27 → h * l ≤ 2 ^ 54
 product27 h l a b = let x : h * l ≤ 2 ^ 27 * 2 ^ 27 = mul-le-mul {n₁ = h} {m₁ = l} {n₂ = 2 ^ 27} {m₂ = 2 ^ 27} (omega arith) (omega arith) in omega arith
 
 -- a difference that wraps and is small is the exact one
