@@ -1,5 +1,5 @@
 -- Save and restore. Assumes nothing.
-use Rattle.std.specs.Prelude.{◌≡◌, Bool, true, false, ◌&&◌, cond, List, [], ◌∷◌, ℕ, zero, suc, ◌*◌, ◌/◌, ◌%◌, ◌≤◌, eqb, ltb, Float, length, take, Result, Ok, Err, Option, Some, None}
+use Rattle.std.specs.Prelude.{◌≡◌, Bool, false, ◌&&◌, cond, List, [], ◌∷◌, ℕ, zero, suc, ◌*◌, ◌/◌, ◌%◌, ◌≤◌, eqb, ltb, Float, length, Result, Ok, Err, Option, Some, None}
 use Rattle.number.specs.Lists.{over}
 use Rattle.history.specs.Numbers.{done, voice_idle, records_longer, records_wrong}
 use Rattle.history.specs.Machine.{◌⇒◌, first_of, Answer, answer}
@@ -65,7 +65,7 @@ pub record Restores (bytes : List ℕ) (v : Voice) (r : Answered) : Type 0 where
   pub number : r.number ≡ (restored bytes v).number
   pub voice : r.voice ≡ (restored bytes v).state
 
--- WHAT COMES OF READING the bytes: how many slots they are, and these at the front of the room for them; none where they are not acceptable
-abbrev pub Reads : List ℕ → Option ℕ → List ℕ → Type 0
-Reads bytes (Some n) slots = (accepted bytes ≡ true) × (n ≤ length slots) × (take n slots ≡ slots_in bytes)
-Reads bytes None slots = accepted bytes ≡ false
+-- WHAT THE SIZE of the bytes says: how many records there are, none where so many are not acceptable
+abbrev pub Sized : List ℕ → Option ℕ → Type 0
+Sized bytes (Some n) = (length bytes ≡ 16 * n) × (12 ≤ n) × (n ≤ 917)
+Sized bytes None = accepted bytes ≡ false

@@ -6,7 +6,8 @@ ghost use Rattle.std.specs.Prelude.{true, ◌≡◌, ◌*◌, ◌≤◌, length}
 ghost use Rattle.number.specs.Lists.{over};
 ghost use Rattle.configuration.specs.Limits.{limits_kept};
 ghost use Rattle.slots.specs.Slots.{count_of};
-ghost use Rattle.rest.specs.Rest.{records_of, saved_by, Saves, slots_in, accepted, Restores, Reads};
+ghost use Rattle.history.specs.Numbers.{records_wrong};
+ghost use Rattle.rest.specs.Rest.{records_of, saved_by, Saves, slots_in, accepted, Restores, Sized};
 
 use reading::check::is_sound;
 use reading::read::voice_in;
@@ -75,9 +76,9 @@ fn read_records(bytes: &[u8], slots: &mut [u64]) -> bool
     ordered & is_sound(slots)
 }
 
-// How many slots there are, where the records are acceptable. A voice within the Option would be copied, and room for it cleared where there is none.
-fn read(bytes: &[u8], slots: &mut [u64; MOST_SLOTS]) -> Option<usize>
-    ensures { Reads bytes.now result slots.new }
+// How many records there are, where by their size they may be a voice's.
+fn size(bytes: &[u8]) -> Option<usize>
+    ensures { Sized bytes.now result }
 {
     let count = bytes.len() / RECORD;
     if bytes.len() % RECORD != 0 {
@@ -89,25 +90,32 @@ fn read(bytes: &[u8], slots: &mut [u64; MOST_SLOTS]) -> Option<usize>
     if count > MOST_SLOTS {
         return None;
     }
-    if !read_records(bytes, &mut slots[..count]) {
-        return None;
-    }
     Some(count)
 }
 
-// RESTORE: into any voice, which a refused one hands back.
+// Not acceptable: the voice that was handed in.
+fn refused(voice: Voice) -> Answered
+    ensures { (result.number ≡ records_wrong) × (result.voice ≡ voice) }
+{
+    Answered {
+        number: Refusal::RecordsWrong.number(),
+        voice,
+    }
+}
+
+// RESTORE: into any voice. The one in the records is built where it is returned: within an Option it would be copied, and room for it cleared where there is none.
 pub fn restore(voice: Voice, bytes: &[u8]) -> Answered
     ensures { Restores bytes.now voice result }
 {
+    let Some(count) = size(bytes) else {
+        return refused(voice);
+    };
     let mut slots = [0; MOST_SLOTS];
-    match read(bytes, &mut slots) {
-        Some(count) => Answered {
-            number: DONE,
-            voice: voice_in(&slots[..count]),
-        },
-        None => Answered {
-            number: Refusal::RecordsWrong.number(),
-            voice,
-        },
+    if !read_records(bytes, &mut slots[..count]) {
+        return refused(voice);
+    }
+    Answered {
+        number: DONE,
+        voice: voice_in(&slots[..count]),
     }
 }

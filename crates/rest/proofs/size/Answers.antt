@@ -1,11 +1,11 @@
--- `read` meets its contract: the size, and then the records. Assumes nothing.
+-- `size` meets its contract: no acceptable records have another size. Assumes nothing.
 use mathlib.Core.Path.{◌≡◌}
 use Prim.Native.Nat.{◌%◌, ◌<◌}
 use native.Mathlib.Omega.{arith}
 use lib.ListN.{length}
 use Rattle.rest.specs.Rest.{record_count}
 use Rattle.rest.proofs.RestLaws.{part_refused, few_refused, many_refused}
-use Rattle.rest.proofs.read.Goals as goal
+use Rattle.rest.proofs.size.Goals as goal
 
 pub returns-then-bytes-ne0 : goal.returns-then-bytes-ne0
 returns-then-bytes-ne0 c =
